@@ -1,0 +1,5 @@
+pub mod Paged
+pub mod Framed
+pub mod Timed
+pub mod Composed
+pub mod Charted

@@ -1,0 +1,12 @@
+use mathlib.Core.Path.{_∙_, ap}
+use Prim.Native.Nat.{ℕ}
+use native.Mathlib.Omega.{arith}
+use Rattle.points.proofs.Tabled.{rank-drawn}
+use Rattle.kinds.specs.declared.moments.Moment.{Moment}
+use Rattle.kinds.specs.Moments.{line}
+use Rattle.kinds.proofs.moments.MomentsKind.value.Needs as need
+
+pub returns : need.returns
+returns c =
+    ap {B = Moment} (λ (n : ℕ). record { at = n })
+    (c .rank .ensures ∙ rank-drawn (c .line .result) 1 (line .side 0) (c .line .ensures) (c .args .items) (c .args .scenario .now) (c .args .item) 0 (omega arith))

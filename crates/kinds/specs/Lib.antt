@@ -1,0 +1,7 @@
+pub mod Meaning
+pub mod Pages
+pub mod Layouts
+pub mod Composition
+pub mod Words
+pub mod Moments
+pub mod Dwellings
