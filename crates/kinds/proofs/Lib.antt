@@ -3,3 +3,4 @@ pub mod Framed
 pub mod Timed
 pub mod Composed
 pub mod Charted
+pub mod Worded

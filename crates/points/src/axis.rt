@@ -70,9 +70,11 @@ impl Axis {
         sum
     }
 
-    /// The rank of mark t of item i in the scenario: how many of all marks of the items stand strictly before it.
+    /// The rank of mark t of item i in the scenario: how many of all marks of the items stand strictly before it. The rank lemma:
+    /// ranks compare as the marks do, for any number of marks and any consistent comparison.
     pub fn rank(&self, items: u8, scenario: &[u8], i: u8, t: u8) -> u32
-        ensures { λ r. ⌜ r ≡ mark-rank (drawn (now (self .entry))) (now (self .entry) .marks) items (now (scenario .entry)) i t ⌝ }
+        ensures compares { λ _. ⌜ Rank-lemma (ℕ × ℕ) ⌝ }
+        ensures is { λ r. ⌜ r ≡ mark-rank (drawn (now (self .entry))) (now (self .entry) .marks) items (now (scenario .entry)) i t ⌝ }
     {
         let mut sum = 0;
         for k in 0..items {
@@ -80,11 +82,4 @@ impl Axis {
         }
         sum
     }
-}
-
-/// The rank lemma: ranks compare as the marks do, for any number of marks and any consistent comparison.
-pub fn rank_lemma() -> u8
-    ensures { λ _. ⌜ Rank-lemma (ℕ × ℕ) ⌝ }
-{
-    0
 }

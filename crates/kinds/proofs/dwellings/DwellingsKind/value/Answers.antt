@@ -9,5 +9,5 @@ use Rattle.kinds.proofs.dwellings.DwellingsKind.value.Needs as need
 pub returns : need.returns
 returns c =
     ap₂ {C = Dwelling} (λ (e n : ℕ). record { east = e; north = n })
-    (c .rank .ensures ∙ rank-drawn (c .eastward .result) 1 (compass .side 0) (c .eastward .ensures) (c .args .items) (c .args .scenario .now) (c .args .item) 0 (omega arith))
-    (c .rank-2 .ensures ∙ rank-drawn (c .northward .result) 1 (compass .side 1) (c .northward .ensures) (c .args .items) (c .args .scenario .now) (c .args .item) 0 (omega arith))
+    (c .rank .ensures .is ∙ rank-drawn (c .eastward .result) 1 (compass .side 0) (c .eastward .ensures) (c .args .items) (c .args .scenario .now) (c .args .item) 0 (omega arith))
+    (c .rank-2 .ensures .is ∙ rank-drawn (c .northward .result) 1 (compass .side 1) (c .northward .ensures) (c .args .items) (c .args .scenario .now) (c .args .item) 0 (omega arith))

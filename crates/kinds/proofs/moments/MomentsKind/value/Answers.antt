@@ -9,4 +9,4 @@ use Rattle.kinds.proofs.moments.MomentsKind.value.Needs as need
 pub returns : need.returns
 returns c =
     ap {B = Moment} (λ (n : ℕ). record { at = n })
-    (c .rank .ensures ∙ rank-drawn (c .line .result) 1 (line .side 0) (c .line .ensures) (c .args .items) (c .args .scenario .now) (c .args .item) 0 (omega arith))
+    (c .rank .ensures .is ∙ rank-drawn (c .line .result) 1 (line .side 0) (c .line .ensures) (c .args .items) (c .args .scenario .now) (c .args .item) 0 (omega arith))
