@@ -3,5 +3,3 @@ pub mod Pages
 pub mod Layouts
 pub mod Composition
 pub mod Words
-pub mod Moments
-pub mod Dwellings

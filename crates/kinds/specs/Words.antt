@@ -30,11 +30,3 @@ read words text = place-from 0 words text
 -- each word stands for its own code, so no two are alike
 abbrev pub Unambiguous : List (List ℕ) → Type 0
 Unambiguous words = (c : ℕ) → c < length words → read words (getD words c []) ≡ Some c
-
--- = < >
-abbrev pub moment-words : List (List ℕ)
-moment-words = codes "=" ∷ codes "<" ∷ codes ">" ∷ []
-
--- eq n ne e se s sw w nw
-abbrev pub dwelling-words : List (List ℕ)
-dwelling-words = codes "eq" ∷ codes "n" ∷ codes "ne" ∷ codes "e" ∷ codes "se" ∷ codes "s" ∷ codes "sw" ∷ codes "w" ∷ codes "nw" ∷ []

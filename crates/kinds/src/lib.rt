@@ -1,6 +1,4 @@
-// Kinds of items: what each means, how each is written, and the kinds of moments and dwellings.
+// Kinds of items: what each means, how each is written, and the composition of its base relations.
 pub mod composition;
-pub mod dwellings;
 pub mod kind;
-pub mod moments;
 pub mod notation;

@@ -1,7 +1,0 @@
-use Rattle.points.proofs.Tabled.{axis-right}
-use Rattle.kinds.specs.Moments.{line as line-layout}
-use Rattle.kinds.proofs.Timed.{coded-beyond}
-use Rattle.kinds.proofs.moments.line.Needs as need
-
-pub returns : need.returns
-returns c = axis-right 3 (line-layout .side 0) _ tt (λ k s t h. coded-beyond k h)
