@@ -1,0 +1,3 @@
+-- The lemmas of the proofs.
+mod Agreements
+mod Unions
