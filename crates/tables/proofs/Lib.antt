@@ -1,3 +1,2 @@
 -- The lemmas of the proofs.
-mod Agreements
 mod Unions

@@ -29,12 +29,3 @@ Compositions-from m c second set = (e : ℕ) → Decides (has set e) (Reaches m 
 -- The set has exactly the codes that fit with a member of the first and a member of the second.
 abbrev pub Compositions : {V : Type 0} → Meaning V → ℕ → ℕ → ℕ → Type 0
 Compositions m first second set = (e : ℕ) → Decides (has set e) ((c : ℕ) × (has first c ≡ true) × Reaches m second c e)
-
--- either both or neither
-abbrev pub Alike : Type 0 → Type 0 → Type 0
-Alike P Q = (P → Q) × (Q → P)
-
--- The cycle law at three base relations: t is in the composition of r and s exactly when s is in that of the converse of r and t, and
--- exactly when r is in that of t and the converse of s.
-abbrev pub Cycle : {V : Type 0} → Meaning V → ℕ → ℕ → ℕ → Type 0
-Cycle m r s t = Alike (Fits m r s t) (Fits m (m .converse r) t s) × Alike (Fits m r s t) (Fits m t (m .converse s) r)

@@ -1,4 +1,6 @@
 // Published converses and compositions, in the notation of the literature.
+ghost use mathlib.Core.Path.{_≡_};
+ghost use lib.ListN.{length};
 
 /// A letter of the literature and what it stands for: one or more of our relation words, parted by spaces.
 pub(crate) struct Letter(pub(crate) &'static str, pub(crate) &'static str);
@@ -24,7 +26,7 @@ pub(crate) struct Direction {
 // The point algebra, after Vilain and Kautz, and van Beek.
 
 /// The letters of the point algebra; B is the set of all three relations.
-pub(crate) static POINT_LETTERS: [Letter; 4] = [
+static POINT_LETTERS: [Letter; 4] = [
     Letter("<", "<"),
     Letter(">", ">"),
     Letter("=", "="),
@@ -32,14 +34,10 @@ pub(crate) static POINT_LETTERS: [Letter; 4] = [
 ];
 
 /// The converses of the point algebra.
-pub(crate) static POINT_CONVERSES: [Turned; 3] = [
-    Turned("<", ">"),
-    Turned(">", "<"),
-    Turned("=", "="),
-];
+static POINT_CONVERSES: [Turned; 3] = [Turned("<", ">"), Turned(">", "<"), Turned("=", "=")];
 
 /// The compositions of the point algebra.
-pub(crate) static POINT_COMPOSITIONS: [Row; 3] = [
+static POINT_COMPOSITIONS: [Row; 3] = [
     Row {
         letter: "<",
         entries: &["<", "B", "<"],
@@ -57,7 +55,7 @@ pub(crate) static POINT_COMPOSITIONS: [Row; 3] = [
 // The interval algebra, after Allen.
 
 /// The letters in which the converses of the interval algebra are given: b is before.
-pub(crate) static INTERVAL_LETTERS: [Letter; 13] = [
+static INTERVAL_LETTERS: [Letter; 13] = [
     Letter("b", "p"),
     Letter("bi", "pi"),
     Letter("o", "o"),
@@ -74,7 +72,7 @@ pub(crate) static INTERVAL_LETTERS: [Letter; 13] = [
 ];
 
 /// The converses of the interval algebra.
-pub(crate) static INTERVAL_CONVERSES: [Turned; 13] = [
+static INTERVAL_CONVERSES: [Turned; 13] = [
     Turned("b", "bi"),
     Turned("bi", "b"),
     Turned("o", "oi"),
@@ -93,7 +91,7 @@ pub(crate) static INTERVAL_CONVERSES: [Turned; 13] = [
 // The cardinal directions, after Frank, and Ligozat.
 
 /// The letters of the cardinal directions.
-pub(crate) static DIRECTION_LETTERS: [Letter; 9] = [
+static DIRECTION_LETTERS: [Letter; 9] = [
     Letter("EQ", "eq"),
     Letter("N", "n"),
     Letter("NE", "ne"),
@@ -106,7 +104,7 @@ pub(crate) static DIRECTION_LETTERS: [Letter; 9] = [
 ];
 
 /// The converses of the cardinal directions.
-pub(crate) static DIRECTION_CONVERSES: [Turned; 9] = [
+static DIRECTION_CONVERSES: [Turned; 9] = [
     Turned("N", "S"),
     Turned("NW", "SE"),
     Turned("W", "E"),
@@ -120,7 +118,7 @@ pub(crate) static DIRECTION_CONVERSES: [Turned; 9] = [
 
 /// The cardinal directions as pairs of relations of the point algebra. The composition of two directions has the directions whose two
 /// parts are each in the composition of the parts.
-pub(crate) static DIRECTIONS: [Direction; 9] = [
+static DIRECTIONS: [Direction; 9] = [
     Direction {
         letter: "EQ",
         eastward: "=",
@@ -167,3 +165,59 @@ pub(crate) static DIRECTIONS: [Direction; 9] = [
         northward: ">",
     },
 ];
+
+/// The letters of the point algebra.
+pub(crate) fn letters_of_points() -> &'static [Letter]
+    ensures { λ r. ⌜ length (now r) ≡ 4 ⌝ }
+{
+    &POINT_LETTERS
+}
+
+/// The converses of the point algebra.
+pub(crate) fn converses_of_points() -> &'static [Turned]
+    ensures { λ r. ⌜ length (now r) ≡ 3 ⌝ }
+{
+    &POINT_CONVERSES
+}
+
+/// The compositions of the point algebra.
+pub(crate) fn compositions_of_points() -> &'static [Row]
+    ensures { λ r. ⌜ length (now r) ≡ 3 ⌝ }
+{
+    &POINT_COMPOSITIONS
+}
+
+/// The letters of the converses of intervals.
+pub(crate) fn letters_of_intervals() -> &'static [Letter]
+    ensures { λ r. ⌜ length (now r) ≡ 13 ⌝ }
+{
+    &INTERVAL_LETTERS
+}
+
+/// The converses of the interval algebra.
+pub(crate) fn converses_of_intervals() -> &'static [Turned]
+    ensures { λ r. ⌜ length (now r) ≡ 13 ⌝ }
+{
+    &INTERVAL_CONVERSES
+}
+
+/// The letters of the cardinal directions.
+pub(crate) fn letters_of_directions() -> &'static [Letter]
+    ensures { λ r. ⌜ length (now r) ≡ 9 ⌝ }
+{
+    &DIRECTION_LETTERS
+}
+
+/// The converses of the cardinal directions.
+pub(crate) fn converses_of_directions() -> &'static [Turned]
+    ensures { λ r. ⌜ length (now r) ≡ 9 ⌝ }
+{
+    &DIRECTION_CONVERSES
+}
+
+/// The cardinal directions as pairs.
+pub(crate) fn all_directions() -> &'static [Direction]
+    ensures { λ r. ⌜ length (now r) ≡ 9 ⌝ }
+{
+    &DIRECTIONS
+}

@@ -1,9 +1,11 @@
 // The transitivity table of the interval algebra.
+ghost use mathlib.Core.Path.{_≡_};
+ghost use lib.ListN.{length};
 use crate::published::Letter;
 use crate::published::Row;
 
 /// The letters of Allen, 1983. Beside those of the thirteen relations: dur and con for three relations each, and no info for all.
-pub(crate) static ALLEN_LETTERS: [Letter; 16] = [
+static ALLEN_LETTERS: [Letter; 16] = [
     Letter("=", "eq"),
     Letter("<", "p"),
     Letter(">", "pi"),
@@ -27,7 +29,7 @@ pub(crate) static ALLEN_IDENTITY: &str = "=";
 
 /// The transitivity table of Allen, 1983, for the twelve relations other than the identity. The letter of the column stands beside
 /// each entry.
-pub(crate) static ALLEN_COMPOSITIONS: [Row; 12] = [
+static ALLEN_COMPOSITIONS: [Row; 12] = [
     Row {
         letter: "<",
         entries: &[
@@ -233,3 +235,17 @@ pub(crate) static ALLEN_COMPOSITIONS: [Row; 12] = [
         ],
     },
 ];
+
+/// Allen's letters.
+pub(crate) fn letters_of_allen() -> &'static [Letter]
+    ensures { λ r. ⌜ length (now r) ≡ 16 ⌝ }
+{
+    &ALLEN_LETTERS
+}
+
+/// Allen's table.
+pub(crate) fn compositions_of_allen() -> &'static [Row]
+    ensures { λ r. ⌜ length (now r) ≡ 12 ⌝ }
+{
+    &ALLEN_COMPOSITIONS
+}
