@@ -1,4 +1,6 @@
 // The figures that a clerk can recount by hand.
+#![tactic(auto)]
+
 ghost use Rattle.std.specs.Prelude.{◌≡◌};
 ghost use Rattle.figures.specs.Figures.{Figures};
 

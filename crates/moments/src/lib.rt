@@ -1,4 +1,6 @@
 // The kind M: moments, with the base relations of the point algebra.
+#![tactic(auto)]
+
 ghost use Rattle.std.specs.Prelude.{◌≡◌, ℕ};
 ghost use Rattle.points.specs.Marks.{Draws};
 ghost use Rattle.points.specs.Sets.{has};

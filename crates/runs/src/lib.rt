@@ -1,4 +1,6 @@
 // Runs: scripts of calls, what they answer, and the law that every run keeps.
+#![tactic(auto)]
+
 pub mod answer;
 pub mod call;
 mod carry;

@@ -1,4 +1,6 @@
 // The search for a scenario that breaks statements at least cost.
+#![tactic(auto)]
+
 pub mod cost;
 pub mod cursor;
 pub mod ledger;

@@ -1,4 +1,6 @@
 // The kind S: spells, with the base relations of the interval algebra.
+#![tactic(auto)]
+
 ghost use Rattle.std.specs.Prelude.{◌≡◌};
 ghost use Rattle.kinds.specs.Layouts.{fit};
 ghost use Rattle.spells.specs.Spells.{spells as spell-meaning, timeline as timeline-layout, spell as spell-at, spell-words, spells};

@@ -1,4 +1,6 @@
 // Prints our tables of moments, spells and dwellings, holds them against published ones, and tries the laws of a relation algebra.
+#![tactic(auto)]
+
 mod algebra;
 mod published;
 mod transitivity;

@@ -2,6 +2,7 @@
 //!
 //! A tally turns a broken statement into a penalty, joins penalties, and compares costs.
 //! The cost of an answer is the join of the penalties of the statements that it breaks.
+#![tactic(auto)]
 
 pub mod by_weight;
 pub mod claim;

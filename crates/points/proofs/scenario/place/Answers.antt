@@ -2,5 +2,5 @@ use Rattle.std.proofs.Common.{arith}
 use Rattle.points.proofs.Placed.{pairs-up}
 use Rattle.points.proofs.scenario.place.Goals as goal
 
-pub overflow-add-result : goal.overflow-add-result
-overflow-add-result c = omega (arith, pairs-up c.args.j 256 (omega arith))
+pub overflow_add-result : goal.overflow_add-result
+overflow_add-result c = omega (arith, pairs-up c.args.j 256 (omega arith))

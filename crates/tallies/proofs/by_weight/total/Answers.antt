@@ -7,6 +7,6 @@ pub returns : goal.returns
 returns c = record {
   joins = search rules;
   sums = λ h. let add = weights-add c.args.claims.now h in search rules;
-  adds-exactly = weights-add;
+  adds_exactly = weights-add;
   counts = weights-count;
 }

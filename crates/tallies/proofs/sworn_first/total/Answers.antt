@@ -7,5 +7,5 @@ pub returns : goal.returns
 returns c = record {
   joins = search rules;
   sums = λ h. let add = parts_add c.args.claims.now h in search rules;
-  adds-exactly = parts_add;
+  adds_exactly = parts_add;
 }

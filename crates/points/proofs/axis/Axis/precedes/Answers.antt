@@ -8,13 +8,13 @@ use Rattle.points.proofs.axis.Axis.precedes.Goals as goal
 
 pub returns-then-k-i : goal.returns-then-k-i
 returns-then-k-i c =
-    c.is-before.ensures
+    c.is_before.ensures
     ∙ ap (λ (e : ℕ). is_lt (drawn c.args.self.now e c.args.s c.args.t)) c.entry.ensures
     ∙ ap is_lt (sym (stands-lt (in-scenario (drawn c.args.self.now) c.args.scenario.now) c.args.k c.args.i c.args.s c.args.t (omega arith)))
 
 pub returns-then-i-k : goal.returns-then-i-k
 returns-then-i-k c =
-    c.is-after.ensures
+    c.is_after.ensures
     ∙ ap (λ (e : ℕ). is_lt (converse (drawn c.args.self.now e c.args.t c.args.s))) c.entry-then-i-k.ensures
     ∙ ap is_lt (sym (stands-gt (in-scenario (drawn c.args.self.now) c.args.scenario.now) c.args.k c.args.i c.args.s c.args.t (omega arith)))
 
