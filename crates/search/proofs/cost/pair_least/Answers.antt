@@ -7,7 +7,7 @@ use Rattle.search.proofs.cost.pair_least.Goals as goal
 pub loop-code-preserved : goal.loop-code-preserved
 loop-code-preserved g c =
     let more = pair-bound-more g.T.Joins.joining g.T.Tally.order c.args.rows.now c.loop-code.code c.args.spot c.loop-code.auto.code in
-    let price = c.pair-price.ensures in
+    let price = c.pair_price.ensures in
     let was : c.loop-code.least ≡ pair-bound g.T.Joins.joining g.T.Tally.order c.loop-code.code c.args.rows.now c.args.spot = c.loop-code.invariant in
     let now : c.lesser-least.result ≡ pair-bound g.T.Joins.joining g.T.Tally.order (c.loop-code.code + 1) c.args.rows.now c.args.spot = cc in
     now

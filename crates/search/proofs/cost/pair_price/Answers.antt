@@ -9,7 +9,7 @@ use Rattle.search.proofs.cost.pair_price.Goals as goal
 
 pub loop-row-preserved : goal.loop-row-preserved
 loop-row-preserved g c =
-    turn-adds g.J.Joins.joining.join (g.J.Joins.joining.penalty (claim-of (get_or c.args.rows.now c.loop-row.row-index no_row))) c.is-broken-at.ensures c.loop-row.invariant
+    turn-adds g.J.Joins.joining.join (g.J.Joins.joining.penalty (claim-of (get_or c.args.rows.now c.loop-row.row-index no_row))) c.is_broken_at.ensures c.loop-row.invariant
     (pair-cost-more g.J.Joins.joining g.met.J.Joins.monoid c.args.rows.now c.loop-row.row-index no_row c.requires c.loop-row-test.true c.args.spot c.args.code)
     c.added-sum.ensures
 

@@ -10,7 +10,7 @@ use Rattle.search.proofs.cost.scenario_charge.Goals as goal
 
 pub loop-row-preserved : goal.loop-row-preserved
 loop-row-preserved g c =
-    turn-adds g.J.Joins.joining.join (g.J.Joins.joining.penalty (claim-of (get_or c.args.rows.now c.loop-row.row-index no_row))) c.is-charged-in.ensures c.loop-row.invariant
+    turn-adds g.J.Joins.joining.join (g.J.Joins.joining.penalty (claim-of (get_or c.args.rows.now c.loop-row.row-index no_row))) c.is_charged_in.ensures c.loop-row.invariant
     (charge-more g.J.Joins.joining g.met.J.Joins.monoid c.args.rows.now c.loop-row.row-index no_row c.requires c.loop-row-test.true (entry c.args.scenario.now) c.args.person)
     c.added-sum.ensures
 

@@ -10,7 +10,7 @@ use Rattle.search.proofs.cost.scenario_cost.Goals as goal
 
 pub loop-row-preserved : goal.loop-row-preserved
 loop-row-preserved g c =
-    turn-adds g.J.Joins.joining.join (g.J.Joins.joining.penalty (claim-of (get_or c.args.rows.now c.loop-row.row-index no_row))) c.is-broken-in.ensures c.loop-row.invariant
+    turn-adds g.J.Joins.joining.join (g.J.Joins.joining.penalty (claim-of (get_or c.args.rows.now c.loop-row.row-index no_row))) c.is_broken_in.ensures c.loop-row.invariant
     (cost-more g.J.Joins.joining g.met.J.Joins.monoid c.args.rows.now c.loop-row.row-index no_row c.requires c.loop-row-test.true (entry c.args.scenario.now))
     c.added-sum.ensures
 

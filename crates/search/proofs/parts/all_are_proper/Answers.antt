@@ -15,7 +15,7 @@ loop-row-preserved c =
     let here : Bool = row-proper c.args.items (get_or c.args.rows.now c.loop-row.row-index no_row) in
     let more = all-proper-more n rows i no_row c.loop-row-test.true in
     elim c.if-good.branch [
-      | then-good w ↦ w.good-is ∙ w.is-proper-good.ensures ∙ sym (ap (λ (v : Bool). v && here) (sym c.loop-row.invariant ∙ w.if-good.true)) ∙ sym more
+      | then-good w ↦ w.good-is ∙ w.is_proper-good.ensures ∙ sym (ap (λ (v : Bool). v && here) (sym c.loop-row.invariant ∙ w.if-good.true)) ∙ sym more
       | else-good w ↦ w.good-is ∙ w.if-good.false ∙ sym (ap (λ (v : Bool). v && here) (sym c.loop-row.invariant ∙ w.if-good.false)) ∙ sym more
     ]
 

@@ -20,7 +20,7 @@ pub loop-spot-preserved : goal.loop-spot-preserved
 loop-spot-preserved g c =
     let self = c.args.self.now in
     turn-joins g.T.Joins.joining.join
-    (c.pair-least.ensures ∙ ap (λ (z : List Row). pair-bound g.T.Joins.joining g.T.Tally.order c.args.self.now.codes z c.loop-spot.spot) c.as-slice.ensures.value)
+    (c.pair_least.ensures ∙ ap (λ (z : List Row). pair-bound g.T.Joins.joining g.T.Tally.order c.args.self.now.codes z c.loop-spot.spot) c.as_slice.ensures.value)
     c.loop-spot.invariant
     (bounds-push g.T.Joins.joining g.met.T.Joins.monoid g.T.Tally.order self.items (rows_of self)
     (proper-is self.items (rows_of self) self.sound) self.codes c.loop-spot.spot)

@@ -32,13 +32,13 @@ opens n b cursor number few one =
 
 pub returns : goal.returns
 returns c =
-    let passed = sym c.can-close.ensures ∙ c.if-not-can-close.false in
+    let passed = sym c.can_close.ensures ∙ c.if-not-can_close.false in
     let parts = closes-parts c.args.items c.args.rows c.args.codes passed in
-    let cursor = c.second-scenario-going.result.0 in
-    let going = c.second-scenario-going.result.1 in
-    let number : cond c.second-scenario-going.result.1 (index c.args.codes (take (pairs c.args.items) c.second-scenario-going.result.0)) (c.args.codes ^ pairs c.args.items) ≡ 1 =
-    subst (λ (p : ℕ). cond c.second-scenario-going.result.1 (index c.args.codes (take p c.second-scenario-going.result.0)) (c.args.codes ^ p) ≡ 1)
-    c.pairs.ensures c.second-scenario-going.ensures.number in
+    let cursor = c.second_scenario-going.result.0 in
+    let going = c.second_scenario-going.result.1 in
+    let number : cond c.second_scenario-going.result.1 (index c.args.codes (take (pairs c.args.items) c.second_scenario-going.result.0)) (c.args.codes ^ pairs c.args.items) ≡ 1 =
+    subst (λ (p : ℕ). cond c.second_scenario-going.result.1 (index c.args.codes (take p c.second_scenario-going.result.0)) (c.args.codes ^ p) ≡ 1)
+    c.pairs.ensures c.second_scenario-going.ensures.number in
     record {
       test = sym passed;
       opens = opens c.args.items c.args.codes cursor (cond going (index c.args.codes (take (pairs c.args.items) cursor)) (c.args.codes ^ pairs c.args.items))

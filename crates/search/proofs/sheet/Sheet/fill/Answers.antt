@@ -71,8 +71,8 @@ loop-spot-preserved g c =
     let count : ℕ = c.pairs-count.result in
     let here : ℕ = c.loop-spot.spot - 1 in
     let owed = c.loop-spot.owed in
-    let prices = c.price-pair-least.new.prices in
-    let value = c.as-slice.ensures.value in
+    let prices = c.price_pair-least.new.prices in
+    let value = c.as_slice.ensures.value in
     let up : (c.loop-spot.spot - 1) + 1 ≡ c.loop-spot.spot = omega (arith, c.loop-spot-test.true) in
     let next : suc (c.loop-spot.spot - 1) ≡ (c.loop-spot.spot - 1) + 1 = omega arith in
     let inside : c.loop-spot.spot - 1 < c.pairs-count.result = omega (arith, c.loop-spot.auto, c.loop-spot-test.true) in
@@ -81,16 +81,16 @@ loop-spot-preserved g c =
     ∙ get_or_default c.loop-spot.owed (here + 1) c.index-owed-spot.result j.empty (omega (arith, pairs-few c.args.self.now.items c.args.self.now.few, c.pairs-count.ensures, c.loop-spot.auto, c.loop-spot.invariant.1, up))
     ∙ c.loop-spot.invariant.3 (here + 1) (omega (arith, up)) (omega (arith, inside))
     ∙ ap (λ (z : ℕ). span (of-rows j) (pair-bound j order codes rows) z (count - z)) (sym next) in
-    let least : c.price-pair-least.result ≡ pair-bound j order codes rows here =
-    c.price-pair-least.ensures.is ∙ ap (λ (z : List Row). pair-bound j order codes z here) value in
+    let least : c.price_pair-least.result ≡ pair-bound j order codes rows here =
+    c.price_pair-least.ensures.is ∙ ap (λ (z : List Row). pair-bound j order codes z here) value in
     let joined : c.join.result ≡ owed-from j order codes rows count here =
     turn-joins j.join rest least (bounds-first j order rows codes here count inside) c.join.ensures in (
-      c.price-pair-least.ensures.long,
+      c.price_pair-least.ensures.long,
       length-set owed here c.join.result ∙ c.loop-spot.invariant.1,
       λ s z lo hi l. elim (eq-or-lt_of_le lo) [
         | inl same ↦ subst (λ (k : ℕ). get_or prices (k * 64 + z) j.empty ≡ pair-cost j rows k z) same
-            (c.price-pair-least.ensures.here z l ∙ ap (λ (r : List Row). pair-cost j r here z) value)
-        | inr lt ↦ c.price-pair-least.ensures.later (s * 64 + z) (omega (arith, lt)) ∙ c.loop-spot.invariant.2 s z (omega (arith, lt, up)) hi l
+            (c.price_pair-least.ensures.here z l ∙ ap (λ (r : List Row). pair-cost j r here z) value)
+        | inr lt ↦ c.price_pair-least.ensures.later (s * 64 + z) (omega (arith, lt)) ∙ c.loop-spot.invariant.2 s z (omega (arith, lt, up)) hi l
       ],
       λ q lo hi. elim (eq-or-lt_of_le lo) [
         | inl same ↦ subst (λ (k : ℕ). get_or (set owed here c.join.result) k j.empty ≡ owed-from j order codes rows count k) same

@@ -44,9 +44,9 @@ returns-then-length-eq0 g c =
     let few = pairs-few c.args.self.now.items c.args.self.now.few in
     let owed = c.index-owed-length.is ∙ get_or_default c.args.owed.now c.args.length c.index-owed-length.result g.T.Joins.joining.empty (omega (arith, few, c.requires.within, c.requires.long))
     ∙ c.requires.owed c.args.length (omega arith) c.requires.within in
-    refuted-by r self.items (rows_of self) c.args.best (cursor-of self) c.args.length c.args.cost c.index-owed-length.result c.join-bound.result false c.at-most.result
-    c.requires.cost owed c.join-bound.ensures (ap (λ (z : ℕ). unfit r self.items z (cursor-of self)) c.if-length-eq0.true ∙ unfit-zero r self.items (cursor-of self)) c.at-most.ensures
-    ∙ c.if-at-most.false
+    refuted-by r self.items (rows_of self) c.args.best (cursor-of self) c.args.length c.args.cost c.index-owed-length.result c.join-bound.result false c.at_most.result
+    c.requires.cost owed c.join-bound.ensures (ap (λ (z : ℕ). unfit r self.items z (cursor-of self)) c.if-length-eq0.true ∙ unfit-zero r self.items (cursor-of self)) c.at_most.ensures
+    ∙ c.if-at_most.false
 
 pub returns : goal.returns
 returns g c =
@@ -57,7 +57,7 @@ returns g c =
     ∙ c.requires.owed c.args.length (omega arith) c.requires.within in
     let up : (c.args.length - 1) + 1 ≡ c.args.length = omega (arith, c.if-length-eq0.false) in
     let before = stands-fits r self.items (rows_of self) c.args.best (cursor-of self) (c.args.length - 1) (c.requires.stands (c.args.length - 1) (omega (arith, c.if-length-eq0.false))) in
-    let closed = subst (λ (z : ℕ). unfit r self.items z (cursor-of self) ≡ c.closes-misfit.result) up (c.closes-misfit.ensures before) in
-    refuted-by r self.items (rows_of self) c.args.best (cursor-of self) c.args.length c.args.cost c.index-owed-length.result c.join-bound.result c.closes-misfit.result c.at-most.result
-    c.requires.cost owed c.join-bound.ensures closed c.at-most.ensures
-    ∙ ap (λ (v : Bool). c.closes-misfit.result || v) c.if-at-most.false ∙ or-false c.closes-misfit.result
+    let closed = subst (λ (z : ℕ). unfit r self.items z (cursor-of self) ≡ c.closes_misfit.result) up (c.closes_misfit.ensures before) in
+    refuted-by r self.items (rows_of self) c.args.best (cursor-of self) c.args.length c.args.cost c.index-owed-length.result c.join-bound.result c.closes_misfit.result c.at_most.result
+    c.requires.cost owed c.join-bound.ensures closed c.at_most.ensures
+    ∙ ap (λ (v : Bool). c.closes_misfit.result || v) c.if-at_most.false ∙ or-false c.closes_misfit.result

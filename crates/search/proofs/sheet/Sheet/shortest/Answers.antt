@@ -48,10 +48,10 @@ loop-length-preserved g c =
     let within : c.loop-length.length ≤ pairs c.args.self.now.items = omega (arith, c.loop-length-test.true, c.pairs-count.ensures) in (
       omega (arith, within),
       record {
-        long = length-set c.loop-length.spent c.loop-length.length c.prefix-cost-cost.result ∙ known.long;
-        costs = spent-more g.T.Joins.joining (rows_of self) (cursor-of self) c.loop-length.spent c.loop-length.length c.prefix-cost-cost.result
-            (omega (arith, few, within, known.long)) known.costs c.prefix-cost-cost.ensures;
-        stands = below_more _ _ known.stands (c.is-refuted.ensures ∙ c.if-is-refuted.false);
+        long = length-set c.loop-length.spent c.loop-length.length c.prefix_cost-cost.result ∙ known.long;
+        costs = spent-more g.T.Joins.joining (rows_of self) (cursor-of self) c.loop-length.spent c.loop-length.length c.prefix_cost-cost.result
+            (omega (arith, few, within, known.long)) known.costs c.prefix_cost-cost.ensures;
+        stands = below_more _ _ known.stands (c.is_refuted.ensures ∙ c.if-is_refuted.false);
       },
     )
 
