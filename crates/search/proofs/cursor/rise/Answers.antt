@@ -14,8 +14,8 @@ loop-i-init c = (
       ap (λ (z : ℕ). past c.args.codes (length c.args.cursor.now) z (index c.args.codes c.args.cursor.now)) e),
 )
 
-pub overflow-add-cursor : goal.overflow-add-cursor
-overflow-add-cursor c =
+pub overflow_add-cursor : goal.overflow_add-cursor
+overflow_add-cursor c =
     let r = turn-read c.args.codes c.args.shared c.args.cursor.now c.requires.low c.requires.within c.loop-i.i c.loop-i.cursor
     c.loop-i-test.true c.loop-i.invariant.0 c.loop-i.invariant.1 in
     let l = All-get_or (λ z. z < c.args.codes) c.args.cursor.now (c.loop-i.i - 1) 0 (omega (arith, c.loop-i.invariant.0, c.loop-i-test.true)) c.requires.low in

@@ -13,8 +13,8 @@ loop-c-preserved g c =
     let gives : ℕ → ℕ → Type 0 = Reaches g.K.Kind.meaning c.args.second in
     elim c.if-contains.branch [
       | then-contains w ↦ subst (Union c.args.first gives (c.loop-c.c + 1)) (sym w.found-is)
-          (union_more c.args.first gives c.loop-c.c c.loop-c.found w.compositions-from-found.result w.if-contains.ensures c.loop-c.invariant
-          w.compositions-from-found.ensures)
+          (union_more c.args.first gives c.loop-c.c c.loop-c.found w.compositions_from-found.result w.if-contains.ensures c.loop-c.invariant
+          w.compositions_from-found.ensures)
       | else-contains w ↦ subst (Union c.args.first gives (c.loop-c.c + 1)) (sym w.found-is)
           (union-same c.args.first gives c.loop-c.c c.loop-c.found w.if-contains.ensures c.loop-c.invariant)
     ]

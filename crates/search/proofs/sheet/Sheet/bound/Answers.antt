@@ -9,9 +9,9 @@ use Rattle.search.proofs.Loops.{turn-joins}
 use Rattle.rules.proofs.Properly.{few-rows, proper-is}
 use Rattle.search.proofs.sheet.Sheet.bound.Goals as goal
 
-pub pair-least-requires : goal.pair-least-requires
-pair-least-requires g c = record {
-  few = subst (λ (z : List Row). length z ≤ 256) (sym c.as-slice.ensures.value)
+pub pair_least-requires : goal.pair_least-requires
+pair_least-requires g c = record {
+  few = subst (λ (z : List Row). length z ≤ 256) (sym c.as_slice.ensures.value)
       (few-rows c.args.self.now.items (rows_of c.args.self.now) c.args.self.now.sound);
   coded = c.args.self.now.coded;
 }

@@ -6,10 +6,10 @@ use Rattle.rules.proofs.Properly.{few-rows}
 use Rattle.search.proofs.Closed.{pairs-few}
 use Rattle.search.proofs.sheet.Sheet.charge.Goals as goal
 
-pub slice-bounds-scenario-charge-end : goal.slice-bounds-scenario-charge-end
-slice-bounds-scenario-charge-end g c = omega (arith, pairs-few c.args.self.now.items c.args.self.now.few, c.pairs.ensures)
+pub slice_bounds-scenario_charge-end : goal.slice_bounds-scenario_charge-end
+slice_bounds-scenario_charge-end g c = omega (arith, pairs-few c.args.self.now.items c.args.self.now.few, c.pairs.ensures)
 
-pub scenario-charge-requires : goal.scenario-charge-requires
-scenario-charge-requires g c =
-    subst (λ (z : List Row). length z ≤ 256) (sym c.as-slice.ensures.value)
+pub scenario_charge-requires : goal.scenario_charge-requires
+scenario_charge-requires g c =
+    subst (λ (z : List Row). length z ≤ 256) (sym c.as_slice.ensures.value)
     (few-rows c.args.self.now.items (rows_of c.args.self.now) c.args.self.now.sound)

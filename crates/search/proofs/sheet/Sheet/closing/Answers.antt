@@ -9,21 +9,32 @@ use Rattle.rules.specs.Steps.{Position, position}
 use Rattle.search.proofs.Closed.{pairs-few, closes-parts, zeros-below}
 use Rattle.search.proofs.sheet.Sheet.closing.Goals as goal
 
-pub second-scenario-going-requires : goal.second-scenario-going-requires
-second-scenario-going-requires c =
-    let parts = closes-parts c.args.items c.args.rows c.args.codes (sym c.can-close.ensures ∙ c.if-not-can-close.false) in
+pub second_scenario-going-requires : goal.second_scenario-going-requires
+second_scenario-going-requires c =
+    let parts = closes-parts c.args.items c.args.rows c.args.codes (sym c.can_close.ensures ∙ c.if-not-can_close.false) in
     record {
       few = omega (arith, pairs-few c.args.items parts.1, c.pairs.ensures);
       coded = parts.2;
     }
 
-pub invariant-of-result : goal.invariant-of-result
-invariant-of-result c =
-    let parts = closes-parts c.args.items c.args.rows c.args.codes (sym c.can-close.ensures ∙ c.if-not-can-close.false) in
+pub invariant_of-result : goal.invariant_of-result
+invariant_of-result c =
+    let parts = closes-parts c.args.items c.args.rows c.args.codes (sym c.can_close.ensures ∙ c.if-not-can_close.false) in
     let zeros = zeros-below c.args.codes (pairs c.args.items) parts.2 (pairs-few c.args.items parts.1) in
-    let marked : all-below c.args.codes (take (pairs c.args.items) c.second-scenario-going.result.0) ≡ true =
-    subst (λ (p : ℕ). all-below c.args.codes (take p c.second-scenario-going.result.0) ≡ true) c.pairs.ensures c.second-scenario-going.ensures.below in
-    (parts.0, (parts.1, (parts.4, (parts.5, (parts.2, (parts.3, (refl, (c.second-scenario-going.ensures.wide, (zeros, (marked, tt))))))))))
+    let marked : all-below c.args.codes (take (pairs c.args.items) c.second_scenario-going.result.0) ≡ true =
+    subst (λ (p : ℕ). all-below c.args.codes (take p c.second_scenario-going.result.0) ≡ true) c.pairs.ensures c.second_scenario-going.ensures.below in
+    record {
+      some = parts.0;
+      few = parts.1;
+      room = parts.4;
+      sound = parts.5;
+      coded = parts.2;
+      narrow = parts.3;
+      long = refl;
+      wide = c.second_scenario-going.ensures.wide;
+      held = zeros;
+      marked = marked;
+    }
 
 -- The arrays stand at the opening.
 opens : (n b : ℕ) (cursor : List ℕ) (number : ℕ) → pairs n ≤ 66 → number ≡ 1 → position (take (pairs n) (replicate 66 0)) number ≡ position (replicate (pairs n) 0) 1

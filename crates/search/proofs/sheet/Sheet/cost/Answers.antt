@@ -6,10 +6,10 @@ use Rattle.rules.proofs.Properly.{few-rows}
 use Rattle.search.proofs.Closed.{pairs-few}
 use Rattle.search.proofs.sheet.Sheet.cost.Goals as goal
 
-pub slice-bounds-scenario-cost-end : goal.slice-bounds-scenario-cost-end
-slice-bounds-scenario-cost-end g c = omega (arith, pairs-few c.args.self.now.items c.args.self.now.few, c.pairs.ensures)
+pub slice_bounds-scenario_cost-end : goal.slice_bounds-scenario_cost-end
+slice_bounds-scenario_cost-end g c = omega (arith, pairs-few c.args.self.now.items c.args.self.now.few, c.pairs.ensures)
 
-pub scenario-cost-requires : goal.scenario-cost-requires
-scenario-cost-requires g c =
-    subst (λ (z : List Row). length z ≤ 256) (sym c.as-slice.ensures.value)
+pub scenario_cost-requires : goal.scenario_cost-requires
+scenario_cost-requires g c =
+    subst (λ (z : List Row). length z ≤ 256) (sym c.as_slice.ensures.value)
     (few-rows c.args.self.now.items (rows_of c.args.self.now) c.args.self.now.sound)

@@ -12,8 +12,8 @@ use Rattle.search.proofs.Closed.{pairs-few}
 use Rattle.search.proofs.Loops.{bounds-first, turn-joins}
 use Rattle.search.proofs.sheet.Sheet.fill.Goals as goal
 
-pub offset-bounds-owed-count : goal.offset-bounds-owed-count
-offset-bounds-owed-count g c =
+pub offset_bounds-owed-count : goal.offset_bounds-owed-count
+offset_bounds-owed-count g c =
     let h : c.pairs-count.result < 67 = omega (arith, pairs-few c.args.self.now.items c.args.self.now.few, c.pairs-count.ensures) in
     search rules
 
@@ -36,25 +36,25 @@ loop-spot-init g c =
           (get_or-set_same owed count c.empty.result j.empty (omega (arith, pairs-few c.args.self.now.items c.args.self.now.few, c.pairs-count.ensures, c.requires.1)) ∙ c.empty.ensures ∙ ap (span (of-rows j) f count) none)),
     )
 
-pub price-pair-least-requires : goal.price-pair-least-requires
-price-pair-least-requires g c = record {
-  few = subst (λ (z : List Row). length z ≤ 256) (sym c.as-slice.ensures.value)
+pub price_pair-least-requires : goal.price_pair-least-requires
+price_pair-least-requires g c = record {
+  few = subst (λ (z : List Row). length z ≤ 256) (sym c.as_slice.ensures.value)
       (few-rows c.args.self.now.items (rows_of c.args.self.now) c.args.self.now.sound);
   coded = (c.args.self.now.coded, c.args.self.now.narrow);
   within = omega (arith, pairs-few c.args.self.now.items c.args.self.now.few, c.pairs-count.ensures, c.loop-spot.auto, c.loop-spot-test.true);
   long = c.loop-spot.invariant.0;
 }
 
-pub offset-bounds-owed-spot : goal.offset-bounds-owed-spot
-offset-bounds-owed-spot g c =
+pub offset_bounds-owed-spot : goal.offset_bounds-owed-spot
+offset_bounds-owed-spot g c =
     let h : (c.loop-spot.spot - 1) + 1 < 67 = omega (arith, pairs-few c.args.self.now.items c.args.self.now.few, c.pairs-count.ensures, c.loop-spot.auto) in
     search rules
 
 pub bounds-owed-spot : goal.bounds-owed-spot
 bounds-owed-spot g c = omega (arith, pairs-few c.args.self.now.items c.args.self.now.few, c.pairs-count.ensures, c.loop-spot.auto)
 
-pub offset-bounds-owed-spot-in-loop-spot : goal.offset-bounds-owed-spot-in-loop-spot
-offset-bounds-owed-spot-in-loop-spot g c =
+pub offset_bounds-owed-spot-in-loop-spot : goal.offset_bounds-owed-spot-in-loop-spot
+offset_bounds-owed-spot-in-loop-spot g c =
     let h : c.loop-spot.spot - 1 < 67 = omega (arith, pairs-few c.args.self.now.items c.args.self.now.few, c.pairs-count.ensures, c.loop-spot.auto) in
     search rules
 

@@ -17,25 +17,25 @@ or-false : (v : Bool) → (v || false) ≡ v
 or-false true = refl
 or-false false = refl
 
-pub offset-bounds-owed-length : goal.offset-bounds-owed-length
-offset-bounds-owed-length g c =
+pub offset_bounds-owed-length : goal.offset_bounds-owed-length
+offset_bounds-owed-length g c =
     let h : c.args.length < 67 = omega (arith, pairs-few c.args.self.now.items c.args.self.now.few, c.requires.within) in
     search rules
 
 pub bounds-owed-length : goal.bounds-owed-length
 bounds-owed-length g c = omega (arith, pairs-few c.args.self.now.items c.args.self.now.few, c.requires.within)
 
-pub returns-then-at-most : goal.returns-then-at-most
-returns-then-at-most g c =
+pub returns-then-at_most : goal.returns-then-at_most
+returns-then-at_most g c =
     let self = c.args.self.now in
     let r = rules-of self g.K.Kind.fit g.T.Joins.joining g.T.Tally.order in
     let few = pairs-few c.args.self.now.items c.args.self.now.few in
     let u : Bool = unfit (rules-of c.args.self.now g.K.Kind.fit g.T.Joins.joining g.T.Tally.order) c.args.self.now.items c.args.length (cursor-of c.args.self.now) in
     let owed = c.index-owed-length.is ∙ get_or_default c.args.owed.now c.args.length c.index-owed-length.result g.T.Joins.joining.empty (omega (arith, few, c.requires.within, c.requires.long))
     ∙ c.requires.owed c.args.length (omega arith) c.requires.within in
-    refuted-by r self.items (rows_of self) c.args.best (cursor-of self) c.args.length c.args.cost c.index-owed-length.result c.join-bound.result u c.at-most.result
-    c.requires.cost owed c.join-bound.ensures refl c.at-most.ensures
-    ∙ ap (λ (v : Bool). u || v) c.if-at-most.true ∙ or-true u
+    refuted-by r self.items (rows_of self) c.args.best (cursor-of self) c.args.length c.args.cost c.index-owed-length.result c.join-bound.result u c.at_most.result
+    c.requires.cost owed c.join-bound.ensures refl c.at_most.ensures
+    ∙ ap (λ (v : Bool). u || v) c.if-at_most.true ∙ or-true u
 
 pub returns-then-length-eq0 : goal.returns-then-length-eq0
 returns-then-length-eq0 g c =

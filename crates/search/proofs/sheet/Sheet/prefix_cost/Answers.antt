@@ -11,27 +11,27 @@ use Rattle.rules.proofs.Costs.{pairs-push}
 use Rattle.search.proofs.Loops.{turn-joins}
 use Rattle.search.proofs.sheet.Sheet.prefix_cost.Goals as goal
 
-pub offset-bounds-spent-last : goal.offset-bounds-spent-last
-offset-bounds-spent-last g c =
+pub offset_bounds-spent-last : goal.offset_bounds-spent-last
+offset_bounds-spent-last g c =
     let h : c.args.length - 1 < 67 = omega (arith, pairs-few c.args.self.now.items c.args.self.now.few, c.requires.within) in
     search rules
 
 pub bounds-spent-last : goal.bounds-spent-last
 bounds-spent-last g c = omega (arith, pairs-few c.args.self.now.items c.args.self.now.few, c.requires.within)
 
-pub overflow-mul-last : goal.overflow-mul-last
-overflow-mul-last g c = omega (arith, pairs-few c.args.self.now.items c.args.self.now.few, c.requires.within)
+pub overflow_mul-last : goal.overflow_mul-last
+overflow_mul-last g c = omega (arith, pairs-few c.args.self.now.items c.args.self.now.few, c.requires.within)
 
 pub bounds-self-last : goal.bounds-self-last
 bounds-self-last g c = omega (arith, pairs-few c.args.self.now.items c.args.self.now.few, c.requires.within, c.if-length-eq0.false)
 
-pub overflow-add-last : goal.overflow-add-last
-overflow-add-last g c =
+pub overflow_add-last : goal.overflow_add-last
+overflow_add-last g c =
     let code = cursor-code c.args.self.now (c.args.length - 1) (omega (arith, c.requires.within, c.if-length-eq0.false)) in
     omega (arith, pairs-few c.args.self.now.items c.args.self.now.few, c.requires.within, code.1, c.args.self.now.narrow)
 
-pub offset-bounds-prices-last : goal.offset-bounds-prices-last
-offset-bounds-prices-last g c =
+pub offset_bounds-prices-last : goal.offset_bounds-prices-last
+offset_bounds-prices-last g c =
     let code = cursor-code c.args.self.now (c.args.length - 1) (omega (arith, c.requires.within, c.if-length-eq0.false)) in
     let h : (c.args.length - 1) * 64 + get_or c.args.self.now.cursor (c.args.length - 1) 0 < 4224 =
     omega (arith, pairs-few c.args.self.now.items c.args.self.now.few, c.requires.within, code.1, c.args.self.now.narrow, c.if-length-eq0.false) in

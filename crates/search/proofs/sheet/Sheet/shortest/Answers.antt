@@ -9,32 +9,32 @@ use Rattle.search.proofs.Prefixes.{spent-more}
 use Rattle.rules.proofs.Advances.{first-at, first_past}
 use Rattle.search.proofs.sheet.Sheet.shortest.Goals as goal
 
-pub offset-bounds-spent-length : goal.offset-bounds-spent-length
-offset-bounds-spent-length g c =
+pub offset_bounds-spent-length : goal.offset_bounds-spent-length
+offset_bounds-spent-length g c =
     let h : c.loop-length.length < 67 = omega (arith, pairs-few c.args.self.now.items c.args.self.now.few, c.loop-length-test.true, c.pairs-count.ensures) in
     search rules
 
 pub bounds-spent-length : goal.bounds-spent-length
 bounds-spent-length g c = omega (arith, pairs-few c.args.self.now.items c.args.self.now.few, c.loop-length-test.true, c.pairs-count.ensures)
 
-pub overflow-add-length : goal.overflow-add-length
-overflow-add-length g c = omega (arith, pairs-few c.args.self.now.items c.args.self.now.few, c.loop-length-test.true, c.pairs-count.ensures)
+pub overflow_add-length : goal.overflow_add-length
+overflow_add-length g c = omega (arith, pairs-few c.args.self.now.items c.args.self.now.few, c.loop-length-test.true, c.pairs-count.ensures)
 
-pub returns-then-is-refuted : goal.returns-then-is-refuted
-returns-then-is-refuted g c =
+pub returns-then-is_refuted : goal.returns-then-is_refuted
+returns-then-is_refuted g c =
     let self = c.args.self.now in
     let r = rules-of self g.K.Kind.fit g.T.Joins.joining g.T.Tally.order in
     let known = c.loop-length.invariant.1 in
     let few = pairs-few c.args.self.now.items c.args.self.now.few in
     let within : c.loop-length.length ≤ pairs c.args.self.now.items = omega (arith, c.loop-length-test.true, c.pairs-count.ensures) in
-    let noted = spent-more g.T.Joins.joining (rows_of self) (cursor-of self) c.loop-length.spent c.loop-length.length c.prefix-cost-cost.result
-    (omega (arith, few, within, known.long)) known.costs c.prefix-cost-cost.ensures in
+    let noted = spent-more g.T.Joins.joining (rows_of self) (cursor-of self) c.loop-length.spent c.loop-length.length c.prefix_cost-cost.result
+    (omega (arith, few, within, known.long)) known.costs c.prefix_cost-cost.ensures in
     record {
       is = sym (first-at (refuted r self.items (rows_of self) c.args.best (cursor-of self)) (pairs self.items + 1) 0 c.loop-length.length
-          (omega arith) (omega (arith, within)) (λ z lo l. known.stands z l) (c.is-refuted.ensures ∙ c.if-is-refuted.true));
+          (omega arith) (omega (arith, within)) (λ z lo l. known.stands z l) (c.is_refuted.ensures ∙ c.if-is_refuted.true));
       within = c.loop-length.invariant.0;
       known = record {
-        long = length-set c.loop-length.spent c.loop-length.length c.prefix-cost-cost.result ∙ known.long;
+        long = length-set c.loop-length.spent c.loop-length.length c.prefix_cost-cost.result ∙ known.long;
         costs = λ z l. noted z (omega (arith, l));
         stands = known.stands;
       };

@@ -36,26 +36,48 @@ pass-risen-requires-2 g c =
       low = subst (λ (p : ℕ). Below c.args.self.now.codes (take p c.args.self.now.cursor)) (sym c.pairs-count.ensures) (below-from self.codes (cursor-of self) self.marked);
     }
 
-pub invariant-of-self : goal.invariant-of-self
-invariant-of-self g c =
+pub invariant_of-self : goal.invariant_of-self
+invariant_of-self g c =
     let self = c.args.self.now in
     let low = c.pass-risen.ensures.low in
     let marked : all-below c.args.self.now.codes (take (pairs c.args.self.now.items) c.pass-risen.new.cursor) ≡ true =
     all-below-from c.args.self.now.codes (take (pairs c.args.self.now.items) c.pass-risen.new.cursor)
     (subst (λ (p : ℕ). Below c.args.self.now.codes (take p c.pass-risen.new.cursor)) c.pairs-count.ensures low.1) in
-    (self.some, (self.few, (self.room, (self.sound, (self.coded, (self.narrow, (self.long, (low.0, (self.held, (marked, tt))))))))))
+    record {
+      some = self.some;
+      few = self.few;
+      room = self.room;
+      sound = self.sound;
+      coded = self.coded;
+      narrow = self.narrow;
+      long = self.long;
+      wide = low.0;
+      held = self.held;
+      marked = marked;
+    }
 
-pub invariant-of-self-2 : goal.invariant-of-self-2
-invariant-of-self-2 g c =
+pub invariant_of-self-2 : goal.invariant_of-self-2
+invariant_of-self-2 g c =
     let self = c.args.self.now in
     let low = c.pass-risen-2.ensures.low in
     let marked : all-below c.args.self.now.codes (take (pairs c.args.self.now.items) c.pass-risen-2.new.cursor) ≡ true =
     all-below-from c.args.self.now.codes (take (pairs c.args.self.now.items) c.pass-risen-2.new.cursor)
     (subst (λ (p : ℕ). Below c.args.self.now.codes (take p c.pass-risen-2.new.cursor)) c.pairs-count.ensures low.1) in
-    (self.some, (self.few, (self.room, (self.sound, (self.coded, (self.narrow, (self.wide, (low.0, (self.marked, (marked, tt))))))))))
+    record {
+      some = self.some;
+      few = self.few;
+      room = self.room;
+      sound = self.sound;
+      coded = self.coded;
+      narrow = self.narrow;
+      long = self.wide;
+      wide = low.0;
+      held = self.marked;
+      marked = marked;
+    }
 
-pub offset-bounds-spent-count : goal.offset-bounds-spent-count
-offset-bounds-spent-count g c =
+pub offset_bounds-spent-count : goal.offset_bounds-spent-count
+offset_bounds-spent-count g c =
     let h : c.pairs-count.result < 67 = omega (arith, pairs-few c.args.self.now.items c.args.self.now.few, c.pairs-count.ensures) in
     search rules
 

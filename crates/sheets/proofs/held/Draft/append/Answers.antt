@@ -4,8 +4,8 @@ use Rattle.rules.proofs.Properly.{proper-pushed}
 use Rattle.sheets.proofs.held.Draft.append.Goals as goal
 
 -- the push succeeds, since there is memory for 256 rows
-pub invariant-of-self : goal.invariant-of-self
-invariant-of-self g c =
+pub invariant_of-self : goal.invariant_of-self
+invariant_of-self g c =
     let draft = c.args.self.now in
     let enough = draft.room in
     let counted = draft.rows.ok.0 in

@@ -10,7 +10,7 @@ pub unreachable-requires : goal.unreachable-requires
 unreachable-requires g c =
     let draft = c.args.self.now in
     let row = c.index.result.now in
-    let there = c.in-ok-i.ensures.1.1 in
+    let there = c.in_ok-i.ensures.1.1 in
     let sound = proper-read draft.items draft.rows.items _ row (omega arith) c.index.ensures draft.sound in
     let few = draft.few in
     let bytes : draft.items ≤ 255 = omega arith in

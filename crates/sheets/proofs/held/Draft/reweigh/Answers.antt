@@ -4,11 +4,11 @@ use Rattle.rules.proofs.Properly.{proper-set, proper-read, sound-weight}
 use Rattle.sheets.proofs.held.Draft.reweigh.Goals as goal
 
 -- the row keeps its items and person, and the new weight has been checked
-pub invariant-of-self : goal.invariant-of-self
-invariant-of-self g c =
+pub invariant_of-self : goal.invariant_of-self
+invariant_of-self g c =
     let draft = c.args.self.now in
-    let there = c.in-ok-at.ensures.1.1 in
-    let row = c.entry-mut.result.now in
-    let was = proper-read draft.items draft.rows.items _ row (omega arith) c.entry-mut.ensures.value draft.sound in
+    let there = c.in_ok-at.ensures.1.1 in
+    let row = c.entry_mut.result.now in
+    let was = proper-read draft.items draft.rows.items _ row (omega arith) c.entry_mut.ensures.value draft.sound in
     let is = sound-weight draft.items row c.args.weight (omega arith) (omega arith) was in
     (draft.some, (draft.few, (draft.room, (proper-set draft.items draft.rows.items _ _ draft.sound is, tt))))
