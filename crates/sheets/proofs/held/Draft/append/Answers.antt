@@ -14,4 +14,4 @@ invariant_of-self g c =
     let more = c.push.ensures.capacity in
     let kept : 256 ≤ vec_capacity c.push.new.self = omega arith in
     let sound = proper-pushed draft.items (vec_items draft.rows) (vec_items c.push.new.self) c.args.row (is_ok c.push.result) c.push.ensures.items (c.push.ensures.succeeds fits) draft.sound before c.requires.0 in
-    (draft.some, (draft.few, (kept, (sound, tt))))
+    record { some = draft.some; few = draft.few; room = kept; sound = sound }

@@ -11,4 +11,4 @@ invariant_of-self g c =
     let row = c.entry_mut.result.now in
     let was = proper-read draft.items draft.rows.items _ row (omega arith) c.entry_mut.ensures.value draft.sound in
     let is = sound-weight draft.items row c.args.weight (omega arith) (omega arith) was in
-    (draft.some, (draft.few, (draft.room, (proper-set draft.items draft.rows.items _ _ draft.sound is, tt))))
+    record { some = draft.some; few = draft.few; room = draft.room; sound = proper-set draft.items draft.rows.items _ _ draft.sound is }

@@ -9,4 +9,4 @@ invariant_of-self g c =
     let draft = c.args.self.now in
     let there = c.in_ok-i.ensures.1.1 in
     let row = proper-read draft.items draft.rows.items _ c.entry_mut.result.now (omega arith) c.entry_mut.ensures.value draft.sound in
-    (draft.some, (draft.few, (draft.room, (proper-set draft.items draft.rows.items _ _ draft.sound row, tt))))
+    record { some = draft.some; few = draft.few; room = draft.room; sound = proper-set draft.items draft.rows.items _ _ draft.sound row }

@@ -11,5 +11,5 @@ returns g c =
     let codes = g.K.Kind.meaning.codes in
     let conv = g.K.Kind.meaning.converse in
     let e = c.args.self.now in
-    let good = acceptable codes items e c.in-ok-check.ensures.0 in
-    (c.in-ok-check.ensures.0, (c.kept.ensures, subst (λ (r : Row). row-proper items r ≡ true) (sym c.kept.ensures) (sound-entry conv codes items e good)))
+    let good = acceptable codes items e c.in_ok-check.ensures.0 in
+    (c.in_ok-check.ensures.0, (c.kept.ensures, subst (λ (r : Row). row-proper items r ≡ true) (sym c.kept.ensures) (sound-entry conv codes items e good)))
