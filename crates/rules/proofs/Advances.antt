@@ -5,23 +5,23 @@ use Rattle.points.specs.Scenarios.{pairs, entry}
 use Rattle.rules.specs.declared.row.Row.{Row}
 use Rattle.rules.specs.Costs.{cost}
 use Rattle.rules.specs.Orders.{Below, index, past}
-use Rattle.rules.specs.Steps.{Rules, Position, position, refuted, first_of, looked-at, shortest, total, finished, step, advance, taken}
+use Rattle.rules.specs.Steps.{Rules, Position, position, refuted, first_passing, looked-at, shortest, total, finished, step, advance, taken}
 use Rattle.rules.proofs.Orders.{index-lt}
 use Rattle.rules.proofs.Cursors.{digits-index, past_one}
 
 -- The first that passes is k, where none before k passes and k does; or past the range, where none in it passes.
-pub first-at : (f : ℕ → Bool) (m q k : ℕ) → q ≤ k → k < q + m → ((z : ℕ) → q ≤ z → z < k → f z ≡ false) → f k ≡ true → first_of f m q ≡ k
+pub first-at : (f : ℕ → Bool) (m q k : ℕ) → q ≤ k → k < q + m → ((z : ℕ) → q ≤ z → z < k → f z ≡ false) → f k ≡ true → first_passing f m q ≡ k
 first-at f zero q k lo hi before here = absurd (omega arith)
 first-at f (suc m) q k lo hi before here = elim (eq-or-lt_of_le lo) [
-  | inl e ↦ (let passes : f q ≡ true = subst (λ (z : ℕ). f z ≡ true) (sym e) here in cond-true (f q) q (first_of f m (suc q)) passes ∙ e)
-  | inr l ↦ cond-false (f q) q (first_of f m (suc q)) (before q (omega arith) l) ∙ first-at f m (suc q) k l (omega arith) (λ z a b. before z (omega arith) b) here
+  | inl e ↦ (let passes : f q ≡ true = subst (λ (z : ℕ). f z ≡ true) (sym e) here in cond-true (f q) q (first_passing f m (suc q)) passes ∙ e)
+  | inr l ↦ cond-false (f q) q (first_passing f m (suc q)) (before q (omega arith) l) ∙ first-at f m (suc q) k l (omega arith) (λ z a b. before z (omega arith) b) here
 ]
 
-pub first_past : (f : ℕ → Bool) (m q : ℕ) → ((z : ℕ) → q ≤ z → z < q + m → f z ≡ false) → first_of f m q ≡ q + m
+pub first_past : (f : ℕ → Bool) (m q : ℕ) → ((z : ℕ) → q ≤ z → z < q + m → f z ≡ false) → first_passing f m q ≡ q + m
 first_past f zero q none = omega arith
 first_past f (suc m) q none =
     let rest = first_past f m (suc q) (λ z a b. none z (omega arith) (omega arith)) in
-    cond-false (f q) q (first_of f m (suc q)) (none q (omega arith) (omega arith)) ∙ (let e : suc q + m ≡ q + suc m = omega arith in rest ∙ e)
+    cond-false (f q) q (first_passing f m (suc q)) (none q (omega arith) (omega arith)) ∙ (let e : suc q + m ≡ q + suc m = omega arith in rest ∙ e)
 
 -- A number told by a flag.
 told : (v : Bool) (x y z : ℕ) → (v ≡ true → x ≡ z) → (v ≡ false → z ≡ y) → cond v x y ≡ z
@@ -32,7 +32,7 @@ module _ {C : Type 0} (r : Rules C) (n : ℕ) (rows : List Row) where
   -- A step from the incumbent a with the cursor at the codes e; b and q are the cost of a and the length of the shortest refuted prefix.
   module _ (a e : List ℕ) (some : 0 < r.codes) (long : length e ≡ pairs n) (low : Below r.codes e)
       (b : C) (is-best : b ≡ cost r.joining rows (entry a))
-      (q : ℕ) (is-first : q ≡ first_of (refuted r n rows b e) (pairs n + 1) 0) where
+      (q : ℕ) (is-first : q ≡ first_passing (refuted r n rows b e) (pairs n + 1) 0) where
     abbrev start : Position
     start = position a (index r.codes e)
 
@@ -41,8 +41,8 @@ module _ {C : Type 0} (r : Rules C) (n : ℕ) (rows : List Row) where
 
     shortest-is : shortest r n rows start ≡ q
     shortest-is =
-        ap (λ (z : List ℕ). first_of (refuted r n rows (cost r.joining rows (entry a)) z) (pairs n + 1) 0) here
-        ∙ ap (λ (z : C). first_of (refuted r n rows z e) (pairs n + 1) 0) (sym is-best) ∙ sym is-first
+        ap (λ (z : List ℕ). first_passing (refuted r n rows (cost r.joining rows (entry a)) z) (pairs n + 1) 0) here
+        ∙ ap (λ (z : C). first_passing (refuted r n rows z e) (pairs n + 1) 0) (sym is-best) ∙ sym is-first
 
     step_is : step r n rows start ≡ cond (leb q (pairs n)) (position a (past r.codes (pairs n) q (index r.codes e))) (position e (index r.codes e + 1))
     step_is =

@@ -1,6 +1,6 @@
 -- Costs by statements, by pairs and by persons: the parts join to the whole.
 use Rattle.std.proofs.Common.{◌≡◌, ℕ, ◌+◌, ◌-◌, ◌<◌, ◌≤◌, Bool, true, false, ◌&&◌, eqb, List, [], ◌∷◌, length, get_or, filter, sym, refl, ap, ◌∙◌, inl, inr, arith}
-use Rattle.std.specs.List.{AllByRecursion as All}
+use Rattle.std.specs.List.{AllByRecursion as Every}
 use Rattle.std.proofs.ByRecursion.{all_kept_by, All-weaker}
 use Rattle.std.proofs.lemmas.Bool.{cases_Bool, eqb-true}
 use Rattle.points.specs.Scenarios.{pairs}
@@ -22,7 +22,7 @@ pub counting-few : (rows : List Row) → length (counting rows) ≤ length rows
 counting-few rows = length-kept-by-le counts rows
 
 -- What holds of all rows holds of those that count.
-pub counting-all : (P : Row → Type 0) (rows : List Row) → All P rows → All P (counting rows)
+pub counting-all : (P : Row → Type 0) (rows : List Row) → Every P rows → Every P (counting rows)
 counting-all P rows h = all_kept_by counts P rows h
 
 -- The rows that are broken where the pair at the place s has the code o s.
@@ -120,7 +120,7 @@ module _ {C : Type 0} (j : Joining Claim C) (m : Monoid j) where
       (all_kept_by test (λ (r : Row). (1 ≤ r.person) × (r.person < 1 + 20)) (counting rows) (keys-person n rows proper))
 
 -- Which rows are broken depends on the codes of the pairs of items alone.
-broken-depends : (n : ℕ) (f g : ℕ → ℕ → ℕ) → ((i k : ℕ) → i < k → k < n → f i k ≡ g i k) → (xs : List Row) → All (λ (r : Row). (r.low < r.high) × (r.high < n)) xs
+broken-depends : (n : ℕ) (f g : ℕ → ℕ → ℕ) → ((i k : ℕ) → i < k → k < n → f i k ≡ g i k) → (xs : List Row) → Every (λ (r : Row). (r.low < r.high) × (r.high < n)) xs
     → filter (λ (r : Row). breaks r (f r.low r.high)) xs ≡ filter (λ (r : Row). breaks r (g r.low r.high)) xs
 broken-depends n f g same [] h = refl
 broken-depends n f g same (r ∷ rs) h =

@@ -1,6 +1,6 @@
 -- The rows of a draft stay proper when one is appended or replaced, and each of them is proper.
 use Rattle.std.proofs.Common.{◌≡◌, ℕ, ◌+◌, ◌<◌, ◌≤◌, Bool, true, false, cond, ◌&&◌, ltb, leb, List, [], ◌∷◌, ◌++◌, length, get_or, take, set, sym, refl, ap, ◌∙◌, subst, arith}
-use Rattle.std.specs.List.{AllByRecursion as All}
+use Rattle.std.specs.List.{AllByRecursion as Every}
 use Rattle.std.proofs.lemmas.List.{length-set, length_push, take_more}
 use Rattle.std.proofs.ByRecursion.{All-push, All-set, All-get_or, All-weaker}
 use Rattle.std.proofs.lemmas.Bool.{and_parts, and_from, le-leb, lt-ltb, leb-true, ltb-true, cond-true}
@@ -72,21 +72,21 @@ sound-weight n r w some most h =
 
 -- rows are proper exactly where there are at most 256 and each is
 
-pub each-sound : (n : ℕ) (rows : List Row) → all-proper n rows ≡ true → All (Sound n) rows
+pub each-sound : (n : ℕ) (rows : List Row) → all-proper n rows ≡ true → Every (Sound n) rows
 each-sound n [] h = tt
 each-sound n (r ∷ rs) h = let p = and_parts (row-proper n r) (all-proper n rs) h in (p.0, each-sound n rs p.1)
 
-pub from_each : (n : ℕ) (rows : List Row) → All (Sound n) rows → all-proper n rows ≡ true
+pub from_each : (n : ℕ) (rows : List Row) → Every (Sound n) rows → all-proper n rows ≡ true
 from_each n [] h = refl
 from_each n (r ∷ rs) h = and_from (row-proper n r) (all-proper n rs) h.0 (from_each n rs h.1)
 
 pub few-rows : (n : ℕ) (rows : List Row) → proper n rows ≡ true → length rows ≤ 256
 few-rows n rows h = leb-true (length rows) 256 (and_parts (leb (length rows) 256) (all-proper n rows) h).0
 
-pub sound-rows : (n : ℕ) (rows : List Row) → proper n rows ≡ true → All (Sound n) rows
+pub sound-rows : (n : ℕ) (rows : List Row) → proper n rows ≡ true → Every (Sound n) rows
 sound-rows n rows h = each-sound n rows (and_parts (leb (length rows) 256) (all-proper n rows) h).1
 
-pub proper-from : (n : ℕ) (rows : List Row) → length rows ≤ 256 → All (Sound n) rows → proper n rows ≡ true
+pub proper-from : (n : ℕ) (rows : List Row) → length rows ≤ 256 → Every (Sound n) rows → proper n rows ≡ true
 proper-from n rows few each =
     and_from (leb (length rows) 256) (all-proper n rows) (le-leb (length rows) 256 few) (from_each n rows each)
 

@@ -1,7 +1,7 @@
 -- The tests of a step: some number that passes, and the first that does.
 use Rattle.std.proofs.Common.{◌≡◌, ℕ, zero, suc, ◌+◌, ◌<◌, ◌≤◌, Bool, true, false, refl, subst, inl, inr, eq-or-lt_of_le, arith}
 use Rattle.std.proofs.lemmas.Bool.{cases_Bool, cases_lt, both_ways, or_cases, or_parts, cond-true, cond-false}
-use Rattle.rules.specs.Steps.{some, first_of}
+use Rattle.rules.specs.Steps.{some, first_passing}
 
 -- Where some number below n passes, here is one.
 pub some-found : (n : ℕ) (f : ℕ → Bool) → some n f ≡ true → (i : ℕ) × (i < n) × (f i ≡ true)
@@ -22,19 +22,19 @@ some-none (suc n) f h i l =
     ]
 
 -- The first that passes, if it is in range, passes.
-pub first_passes : (f : ℕ → Bool) (m q : ℕ) → first_of f m q < q + m → f (first_of f m q) ≡ true
+pub first_passes : (f : ℕ → Bool) (m q : ℕ) → first_passing f m q < q + m → f (first_passing f m q) ≡ true
 first_passes f zero q h = absurd (omega arith)
 first_passes f (suc m) q h = elim (cases_Bool (f q)) [
-  | inl e ↦ rw (cond-true (f q) q (first_of f m (suc q)) e) e
-  | inr e ↦ (let is = cond-false (f q) q (first_of f m (suc q)) e in rw is (first_passes f m (suc q) (omega arith)))
+  | inl e ↦ rw (cond-true (f q) q (first_passing f m (suc q)) e) e
+  | inr e ↦ (let is = cond-false (f q) q (first_passing f m (suc q)) e in rw is (first_passes f m (suc q) (omega arith)))
 ]
 
 -- If it is past the range, each in range fails.
-pub first-none : (f : ℕ → Bool) (m q : ℕ) → q + m ≤ first_of f m q → (i : ℕ) → q ≤ i → i < q + m → f i ≡ false
+pub first-none : (f : ℕ → Bool) (m q : ℕ) → q + m ≤ first_passing f m q → (i : ℕ) → q ≤ i → i < q + m → f i ≡ false
 first-none f zero q h i l u = absurd (omega arith)
 first-none f (suc m) q h i l u = elim (cases_Bool (f q)) [
-  | inl e ↦ (let is = cond-true (f q) q (first_of f m (suc q)) e in absurd (omega arith))
-  | inr e ↦ (let is = cond-false (f q) q (first_of f m (suc q)) e in
+  | inl e ↦ (let is = cond-true (f q) q (first_passing f m (suc q)) e in absurd (omega arith))
+  | inr e ↦ (let is = cond-false (f q) q (first_passing f m (suc q)) e in
       elim (eq-or-lt_of_le l) [
         | inl s ↦ subst (λ (k : ℕ). f k ≡ false) s e
         | inr lt ↦ first-none f m (suc q) (omega arith) i lt (omega arith)

@@ -1,6 +1,6 @@
 -- Scenarios in dictionary order, the first pair counting most, and their numbers in that order.
 use Rattle.std.specs.Prelude.{◌≡◌, ℕ, zero, suc, ◌+◌, ◌-◌, ◌*◌, ◌/◌, ◌%◌, ◌^◌, ◌<◌, ◌⊎◌, ◌↔◌, List, [], ◌∷◌, ◌++◌, length}
-use Rattle.std.specs.List.{AllByRecursion as All}
+use Rattle.std.specs.List.{AllByRecursion as Every}
 
 -- the pairs (0, j), .., (i - 1, j), and all pairs of n items, with the codes f
 abbrev pub column : (ℕ → ℕ → ℕ) → ℕ → ℕ → List ℕ
@@ -13,7 +13,7 @@ scenario-of f (suc j) = scenario-of f j ++ column f j j
 
 -- every code is below b
 abbrev pub Below : ℕ → List ℕ → Type 0
-Below b scenario = All (λ c. c < b) scenario
+Below b scenario = Every (λ c. c < b) scenario
 
 -- dictionary order
 abbrev pub Before : List ℕ → List ℕ → Type 0

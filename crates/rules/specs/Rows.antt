@@ -1,6 +1,6 @@
 -- The rows of a sheet, and which of them count and are broken.
 use Rattle.std.specs.Prelude.{ℕ, ◌<◌, ◌≤◌, Bool, true, false, not, List, length, filter}
-use Rattle.std.specs.List.{AllByRecursion as All}
+use Rattle.std.specs.List.{AllByRecursion as Every}
 use Rattle.points.specs.Scenarios.{place}
 use Rattle.points.specs.Sets.{has}
 use Rattle.tallies.specs.Joins.{most-penalties}
@@ -44,5 +44,5 @@ spot r = place r.low r.high
 -- At most 256 rows, each on two of n items, the lower first, by a person from 1 to 20.
 pub record Proper (n : ℕ) (rows : List Row) : Type 0 where
   pub few : length rows ≤ most-penalties
-  pub items : All (λ (r : Row). (r.low < r.high) × (r.high < n)) rows
-  pub persons : All (λ (r : Row). (1 ≤ r.person) × (r.person ≤ 20)) rows
+  pub items : Every (λ (r : Row). (r.low < r.high) × (r.high < n)) rows
+  pub persons : Every (λ (r : Row). (1 ≤ r.person) × (r.person ≤ 20)) rows

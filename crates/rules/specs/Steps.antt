@@ -36,9 +36,9 @@ abbrev pub refuted : {C : Type 0} → Rules C → ℕ → List Row → C → Lis
 refuted r n rows best a q = unfit r n q a || r.at_most best (prefix-bound r.joining r.at_most r.codes (pairs n) rows q a)
 
 -- The first of q, .., q + m - 1 that passes, or q + m.
-abbrev pub first_of : (ℕ → Bool) → ℕ → ℕ → ℕ
-first_of f zero q = q
-first_of f (suc m) q = cond (f q) q (first_of f m (suc q))
+abbrev pub first_passing : (ℕ → Bool) → ℕ → ℕ → ℕ
+first_passing f zero q = q
+first_passing f (suc m) q = cond (f q) q (first_passing f m (suc q))
 
 -- the scenario at the cursor, the cost of the incumbent, and the length of the shortest refuted prefix, or one more than there are pairs
 abbrev pub looked-at : {C : Type 0} → Rules C → ℕ → Position → List ℕ
@@ -48,7 +48,7 @@ abbrev pub best-cost : {C : Type 0} → Rules C → List Row → Position → C
 best-cost r rows s = cost r.joining rows (entry s.incumbent)
 
 abbrev pub shortest : {C : Type 0} → Rules C → ℕ → List Row → Position → ℕ
-shortest r n rows s = first_of (refuted r n rows (best-cost r rows s) (looked-at r n s)) (pairs n + 1) 0
+shortest r n rows s = first_passing (refuted r n rows (best-cost r rows s) (looked-at r n s)) (pairs n + 1) 0
 
 -- One step: past all scenarios that share the shortest refuted prefix; or, if none is refuted, the scenario becomes the incumbent and
 -- the cursor moves by one.

@@ -1,6 +1,9 @@
 -- The state of a run as the code has it, and the model that it stands for.
 use Rattle.std.specs.Prelude.{◌≡◌, ℕ, List, vec_items}
 use Rattle.kinds.specs.Meaning.{Meaning}
+use Rattle.kinds.specs.declared.kind.Kind.{Ghosts as Kinds}
+use Rattle.tallies.specs.declared.tally.Tally.{Ghosts as Tallies}
+use Rattle.tallies.specs.declared.tally.Joins.{Ghosts as Joinings}
 use Rattle.rules.specs.Steps.{Rules}
 use Rattle.search.specs.Closed.{rows_of, position-of}
 use Rattle.sheets.specs.declared.held.Draft.{Draft}
@@ -12,26 +15,27 @@ use Rattle.runs.specs.declared.state.State.TheVariants.{Drafting, Closing}
 use Rattle.runs.specs.Models.{Model, drafting, closed, next}
 use Rattle.runs.specs.Answers.{Answers-call}
 
-module _ {A B V C : Type 0} where
-  -- the model of a draft, and of a closed sheet with the steps taken and asked for since closing, which no code keeps
-  abbrev pub draft-view : Draft A B V C → Model
+-- the model of a closed sheet with the steps taken and asked for since closing, which no code keeps
+abbrev pub closed-view : {A B V C : Type 0} → Closed A B V C → ℕ → ℕ → Model
+closed-view s steps asked = closed s.sheet.items (rows_of s.sheet) (position-of s.sheet) steps asked
+
+module _ {A B V C : Type 0} {k : Kinds A V} {t : Tallies B C} {j : Joinings B C} where
+  -- the model of a draft
+  abbrev pub draft-view : Draft A B V C k t j → Model
   draft-view d = drafting d.items (vec_items d.rows)
 
-  abbrev pub closed-view : Closed A B V C → ℕ → ℕ → Model
-  closed-view s steps asked = closed s.sheet.items (rows_of s.sheet) (position-of s.sheet) steps asked
-
   -- The state stands for the model.
-  abbrev pub Views : State A B V C → Model → Type 0
+  abbrev pub Views : State A B V C k t j → Model → Type 0
   Views (Drafting d) x = x ≡ draft-view d
   Views (Closing s) x = (steps : ℕ) × (asked : ℕ) × (x ≡ closed-view s steps asked)
 
   -- A closed sheet has the codes of its kind.
-  abbrev pub Ready : Meaning V → State A B V C → Type 0
+  abbrev pub Ready : Meaning V → State A B V C k t j → Type 0
   Ready m (Drafting d) = Unit {0}
   Ready m (Closing s) = s.sheet.codes ≡ m.codes
 
 -- A call is carried out: it leaves a state and an answer as the model has it.
-pub record Carries {A B V C : Type 0} (m : Meaning V) (values : ℕ → List ℕ → ℕ → V) (r : Rules C) (x : Model) (c : Call) (state : State A B V C) (a : Answer V C) : Type 0 where
+pub record Carries {A B V C : Type 0} {k : Kinds A V} {t : Tallies B C} {j : Joinings B C} (m : Meaning V) (values : ℕ → List ℕ → ℕ → V) (r : Rules C) (x : Model) (c : Call) (state : State A B V C k t j) (a : Answer V C) : Type 0 where
   pub ready : Ready m state
   pub answers : Answers-call m values r x c a
   pub views : Views state (next m r x c)

@@ -1,7 +1,7 @@
 // The prefixes of the scenario at the cursor, and which of them are refuted.
 ghost use Rattle.std.specs.Prelude.{◌≡◌, ℕ, ◌+◌, ◌*◌, ◌<◌, ◌≤◌, Bool, true, false, not, length as length-of, slice_index};
 ghost use Rattle.points.specs.Scenarios.{pairs as pairs_of, place as place_of};
-ghost use Rattle.rules.specs.Steps.{some, unfit, refuted, first_of};
+ghost use Rattle.rules.specs.Steps.{some, unfit, refuted, first_passing};
 ghost use Rattle.search.specs.Closed.{rows_of, cursor-of, rules-of};
 ghost use Rattle.search.specs.Tables.{spent-on, Priced, Owed, Stands, Tabled, Known};
 
@@ -122,7 +122,7 @@ impl Sheet {
         requires within { from ≤ pairs_of self.now.items }
         requires tabled { Tabled (rules-of self.now K.Kind.fit T.Joins.joining T.Tally.order) self.now.items (rows_of self.now) prices.now owed.now }
         requires known { Known (rules-of self.now K.Kind.fit T.Joins.joining T.Tally.order) self.now.items (rows_of self.now) best (cursor-of self.now) from spent.old }
-        ensures is { result ≡ first_of (refuted (rules-of self.now K.Kind.fit T.Joins.joining T.Tally.order) self.now.items (rows_of self.now) best (cursor-of self.now)) (pairs_of self.now.items + 1) 0 }
+        ensures is { result ≡ first_passing (refuted (rules-of self.now K.Kind.fit T.Joins.joining T.Tally.order) self.now.items (rows_of self.now) best (cursor-of self.now)) (pairs_of self.now.items + 1) 0 }
         ensures within { result ≤ pairs_of self.now.items + 1 }
         ensures known { Known (rules-of self.now K.Kind.fit T.Joins.joining T.Tally.order) self.now.items (rows_of self.now) best (cursor-of self.now) result spent.new }
     {

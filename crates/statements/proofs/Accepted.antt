@@ -1,6 +1,6 @@
 -- What the checks of an entry say once they have all passed, and that its row is then proper.
 use Rattle.std.proofs.Common.{◌≡◌, ℕ, ◌-◌, ◌<◌, ◌≤◌, Bool, true, false, cond, not, eqb, ltb, leb, List, [], ◌∷◌, Some, None, sym, refl, ◌∙◌, inl, inr, arith}
-use Rattle.std.specs.List.{AllByRecursion as All}
+use Rattle.std.specs.List.{AllByRecursion as Every}
 use Rattle.std.proofs.lemmas.Bool.{and_parts, cases_Bool, cond-true, cond-false, leb-true, ltb-true, ltb-false, eqb-false, not-true}
 use Rattle.statements.specs.declared.entry.Entry.{Entry}
 use Rattle.statements.specs.Faults.{Check, first-fault}
@@ -9,7 +9,7 @@ use Rattle.statements.specs.Drafts.{entry-checks, row_of}
 use Rattle.rules.proofs.Properly.{Sound, sound-from}
 
 -- where no check is the first to fail, all pass
-pub all_pass : (cs : List Check) → first-fault cs ≡ None → All (λ (c : Check). c.0 ≡ true) cs
+pub all_pass : (cs : List Check) → first-fault cs ≡ None → Every (λ (c : Check). c.0 ≡ true) cs
 all_pass [] h = tt
 all_pass (c ∷ cs) h = elim (cases_Bool c.0) [
   | inl t ↦ (t, all_pass cs (sym (cond-true c.0 (first-fault cs) (Some c.1) t) ∙ h))

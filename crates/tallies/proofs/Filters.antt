@@ -1,6 +1,6 @@
 -- Filters of lists: a filter after a filter, and what holds of what is kept.
 use Rattle.std.proofs.Common.{◌≡◌, Bool, true, List, [], ◌∷◌, filter, refl, inl, inr}
-use Rattle.std.specs.List.{AllByRecursion as All}
+use Rattle.std.specs.List.{AllByRecursion as Every}
 use Rattle.std.proofs.lemmas.Bool.{cond_both, cases_Bool}
 
 module _ {P : Type 0} where
@@ -14,8 +14,8 @@ module _ {P : Type 0} where
       ]
 
   -- What holds of all, and with the test gives Q, gives Q of all that pass.
-  pub all-kept-by-to : (f : P → Bool) (A Q : P → Type 0) → ((x : P) → f x ≡ true → A x → Q x) → (xs : List P) → All A xs → All Q (filter f xs)
+  pub all-kept-by-to : (f : P → Bool) (A Q : P → Type 0) → ((x : P) → f x ≡ true → A x → Q x) → (xs : List P) → Every A xs → Every Q (filter f xs)
   all-kept-by-to f A Q to [] h = tt
   all-kept-by-to f A Q to (x ∷ xs) h =
       let rest = all-kept-by-to f A Q to xs h.1 in
-      cond_both (f x) (x ∷ filter f xs) (filter f xs) (All Q) (λ e. (to x e h.0, rest)) (λ e. rest)
+      cond_both (f x) (x ∷ filter f xs) (filter f xs) (Every Q) (λ e. (to x e h.0, rest)) (λ e. rest)
