@@ -1,5 +1,5 @@
 -- Charges told while a sheet stands still join to the cost that is shown.
-use Rattle.std.proofs.Common.{◌≡◌, ℕ, zero, suc, ◌+◌, ◌<◌, ◌≤◌, Bool, true, false, cond, ◌⊎◌, List, [], ◌∷◌, length, take, Some, None, Option, sym, refl, ap, ◌∙◌, subst, inl, inr, arith}
+use Rattle.std.proofs.Common.{◌≡◌, ℕ, zero, suc, ◌+◌, ◌<◌, ◌≤◌, Bool, false, cond, List, [], ◌∷◌, take, Some, None, Option, sym, refl, ap, ◌∙◌, subst, inl, inr, arith}
 use Rattle.std.proofs.lemmas.Bool.{cases_Bool, cases_lt, both_ways}
 use Rattle.points.specs.Scenarios.{entry}
 use Rattle.kinds.specs.Meaning.{Meaning}
@@ -9,7 +9,7 @@ use Rattle.tallies.specs.declared.claim.Claim.{Claim}
 use Rattle.tallies.proofs.Groups.{span_same}
 use Rattle.rules.specs.declared.row.Row.{Row}
 use Rattle.rules.specs.Rows.{Proper}
-use Rattle.rules.specs.Costs.{of-rows, cost, charge}
+use Rattle.rules.specs.Costs.{of-rows, charge}
 use Rattle.rules.specs.Steps.{Rules, Position, step, finished, advance, taken}
 use Rattle.rules.proofs.Costs.{charges-join}
 use Rattle.statements.specs.declared.fault.Fault.{Fault}
@@ -19,10 +19,10 @@ use Rattle.runs.specs.declared.call.Call.{Call}
 use Rattle.runs.specs.declared.call.Call.TheVariants.{Size, Enter, Strike, Reweigh, Look, Close, Search, Show, Charge, Reopen}
 use Rattle.runs.specs.declared.answer.Sight.{Sight}
 use Rattle.runs.specs.declared.answer.Answer.{Answer}
-use Rattle.runs.specs.declared.answer.Answer.TheVariants.{Unmade, Refused, Done, Took, Shown, Charged}
-use Rattle.runs.specs.Models.{Model, drafting, closed, verdict, by-checks, next, after}
-use Rattle.runs.specs.Answers.{Shows, Showing, Answers-call, Answers-script}
-use Rattle.runs.specs.Law.{At, On-closed, steps_of, is-done, reopens, Still, Told, Charges}
+use Rattle.runs.specs.declared.answer.Answer.TheVariants.{Refused, Took, Shown, Charged}
+use Rattle.runs.specs.Models.{Model, drafting, closed, verdict, next, after}
+use Rattle.runs.specs.Answers.{Shows, Answers-call, Answers-script}
+use Rattle.runs.specs.Law.{At, On-closed, steps_of, is-done, reopens, Told, Charges}
 use Rattle.runs.proofs.Verdicts.{by_cases, sort, sort-for, sorted}
 use Rattle.runs.proofs.Places.{at_same, made}
 

@@ -1,12 +1,12 @@
 -- What every call keeps: rows are proper, a search is sound, and each of its steps has moved the cursor on.
-use Rattle.std.proofs.Common.{◌≡◌, ℕ, zero, suc, ◌+◌, ◌-◌, ◌<◌, ◌≤◌, Bool, true, false, ◌&&◌, ltb, List, [], ◌∷◌, ◌++◌, length, take, set, None, Decides, sym, refl, ap, ◌∙◌, subst, arith}
+use Rattle.std.proofs.Common.{◌≡◌, ℕ, zero, suc, ◌+◌, ◌-◌, ◌<◌, ◌≤◌, Bool, true, ltb, List, [], ◌∷◌, ◌++◌, length, take, set, None, Decides, refl, arith}
 use Rattle.std.proofs.lemmas.Bool.{ltb-true}
 use Rattle.kinds.specs.Meaning.{Meaning, Laws, Fits, Realisation}
 use Rattle.tallies.specs.Joins.{Joining, Monoid, Ranking}
 use Rattle.tallies.specs.declared.claim.Claim.{Claim}
 use Rattle.rules.specs.declared.row.Row.{Row}
 use Rattle.rules.specs.Rows.{no_row, with-struck, with-weight}
-use Rattle.rules.specs.Properly.{between, proper}
+use Rattle.rules.specs.Properly.{proper}
 use Rattle.rules.specs.Steps.{Rules, Position, total, opening, advance, taken}
 use Rattle.rules.specs.Soundness.{Sound, Search-keeps, rules}
 use Rattle.rules.proofs.Properly.{proper-is, proper-push, proper-set, proper-at, sound-weight}

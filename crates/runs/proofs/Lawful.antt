@@ -1,5 +1,5 @@
 -- Every run keeps the law.
-use Rattle.std.proofs.Common.{◌≡◌, ℕ, zero, suc, ◌+◌, ◌-◌, ◌<◌, ◌≤◌, Bool, true, false, cond, List, [], ◌∷◌, length, get_or, take, Some, None, vec_items, Decides, Option, sym, refl, ap, ◌∙◌, subst, inl, inr, arith}
+use Rattle.std.proofs.Common.{◌≡◌, ℕ, ◌+◌, ◌-◌, ◌<◌, ◌≤◌, Bool, true, List, get_or, take, Some, None, vec_items, Decides, Option, sym, ap, ◌∙◌, subst, inl, inr, arith}
 use Rattle.std.proofs.lemmas.Bool.{cases_Bool, leb-false}
 use Rattle.points.specs.Scenarios.{entry}
 use Rattle.kinds.specs.Meaning.{Meaning, Laws, Fits, Realises, Realisation}
@@ -23,10 +23,10 @@ use Rattle.runs.specs.declared.answer.Answer.{Answer}
 use Rattle.runs.specs.declared.answer.Answer.TheVariants.{Refused, Took, Shown}
 use Rattle.runs.specs.Models.{Model, drafting, closed, verdict, next, after}
 use Rattle.runs.specs.Answers.{Shows, Answers-call, Answers-script}
-use Rattle.runs.specs.Law.{At, On-closed, While-closed, cursor-at, steps_of, asks, stepped, wanted, Sight-law, Going, Law}
+use Rattle.runs.specs.Law.{On-closed, While-closed, cursor-at, steps_of, stepped, wanted, Sight-law, Going, Law}
 use Rattle.runs.proofs.Verdicts.{sorted}
 use Rattle.runs.proofs.Places.{at_same, made, as_long, after_next}
-use Rattle.runs.proofs.Kept.{Fine-rows, Fine-sheet, Fine, searches, fine-after}
+use Rattle.runs.proofs.Kept.{Fine-sheet, Fine, searches, fine-after}
 use Rattle.runs.proofs.Counted.{Counted, counted-after}
 use Rattle.runs.proofs.Charged.{Stands, wrong, shown-on, charges}
 

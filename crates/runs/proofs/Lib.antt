@@ -5,3 +5,4 @@ pub mod Kept
 pub mod Counted
 pub mod Charged
 pub mod Lawful
+pub mod Carried

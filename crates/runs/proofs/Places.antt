@@ -1,5 +1,5 @@
 -- Places of a run: the model there, the call and its answer.
-use Rattle.std.proofs.Common.{◌≡◌, ℕ, zero, suc, ◌+◌, ◌<◌, ◌≤◌, List, [], ◌∷◌, length, take, sym, refl, ap, ◌∙◌, subst, arith}
+use Rattle.std.proofs.Common.{◌≡◌, ℕ, zero, suc, List, [], ◌∷◌, length, take, sym, refl, ap, ◌∙◌, subst}
 use Rattle.kinds.specs.Meaning.{Meaning}
 use Rattle.rules.specs.Steps.{Rules}
 use Rattle.runs.specs.declared.call.Call.{Call}

@@ -2,7 +2,7 @@ use Rattle.std.proofs.Common.{◌≡◌, ℕ, List, sym, refl, ap, ◌∙◌}
 use Rattle.rules.specs.declared.row.Row.{Row}
 use Rattle.rules.specs.Steps.{Position, opening}
 use Rattle.search.specs.Closed.{rows_of, position-of}
-use Rattle.runs.specs.Models.{Model, closed}
+use Rattle.runs.specs.Models.{closed}
 use Rattle.runs.proofs.carry.on_draft.Goals as goal
 
 -- the closed sheet has the items and rows of the draft, and its search is at the opening
