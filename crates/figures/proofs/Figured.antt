@@ -1,11 +1,11 @@
 -- The table of figures, derived from the definitions.
-use Rattle.std.proofs.Common.{◌≡◌, ℕ, ◌<◌, ◌≤◌, Bool, true, false, cond, T, eqb, ltb, ◌⊎◌, ◌↔◌, List, [], ◌∷◌, map, Decides, sym, refl, ap, ◌∙◌, subst, inl, inr, arith}
+use Rattle.std.proofs.Common.{◌≡◌, ℕ, ◌<◌, Bool, true, false, cond, T, eqb, ltb, List, [], ◌∷◌, map, sym, refl, ap, ◌∙◌, subst, inl, inr}
 use Prim.Native.String.{String}
 use Rattle.std.proofs.lemmas.Bool.{cases_lt, ltb-true, eqb-true, eq-eqb, both_ways, cases_Bool}
 use Rattle.points.specs.Ranks.{Has}
 use Rattle.points.specs.Tests.{both, upto}
 use Rattle.points.proofs.Finite.{both_left, both_right, alike, alike-eq, true-from, upto-at}
-use Rattle.kinds.specs.Meaning.{Meaning, Fits}
+use Rattle.kinds.specs.Meaning.{Meaning}
 use Rattle.kinds.specs.Layouts.{Layout, fit}
 use Rattle.moments.specs.Moments.{moment-words, moments, line}
 use Rattle.dwellings.specs.Dwellings.{dwelling-words, dwellings, compass}
@@ -14,6 +14,8 @@ use Rattle.moments.specs.Timed.{timed}
 use Rattle.dwellings.specs.Charted.{charted}
 use Rattle.spells.specs.Spells.{spells, timeline, spell-words}
 use Rattle.spells.specs.Spelled.{spelled}
+use Rattle.figures.specs.Small.{moments-by-weight, moments-sworn-first, household, lone, sworn-pair}
+use Rattle.figures.proofs.Searched.{finished-after}
 use Rattle.figures.specs.Figures.{code, Composed, Figures}
 
 -- whether a number stands in the list, and whether all numbers of the list are below b
@@ -77,4 +79,16 @@ figures = record {
   north-south = composed dwellings compass charted dwelling-words "n" "s" ("eq" ∷ "n" ∷ "s" ∷ []) tt;
   meeting-first = refl;
   meeting-second = refl;
+  household-steps = finished-after moments-by-weight 3 household 18 tt;
+  household-cost = refl;
+  household-floor = refl;
+  household-values = refl;
+  household-first = refl;
+  household-second = refl;
+  lone-steps = finished-after moments-by-weight 1 lone 0 tt;
+  lone-cost = refl;
+  lone-values = refl;
+  sworn-steps = finished-after moments-sworn-first 2 sworn-pair 2 tt;
+  sworn-cost = refl;
+  sworn-values = refl;
 }

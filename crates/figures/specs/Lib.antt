@@ -1,1 +1,2 @@
+pub mod Small
 pub mod Figures
