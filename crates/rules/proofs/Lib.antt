@@ -14,3 +14,4 @@ pub mod Refuted
 pub mod Soundness
 pub mod Incumbents
 pub mod Advances
+pub mod Constraints

@@ -5,3 +5,4 @@ pub mod Costs
 pub mod Orders
 pub mod Steps
 pub mod Soundness
+pub mod Networks
