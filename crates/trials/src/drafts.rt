@@ -1,0 +1,158 @@
+// Drafts: what each call accepts and refuses at its limits.
+use moments::Moments;
+use sheets::held::Draft;
+use statements::entry::Entry;
+use statements::fault::Fault;
+use std::alloc::Global;
+use std::test::Fail;
+use tallies::by_weight::ByWeight;
+
+type Sheet = Draft<Moments, ByWeight>;
+
+// A statement that may be entered on a draft of two items.
+const GOOD: Entry = Entry {
+    first: 1,
+    second: 2,
+    set: 2,
+    weight: 1,
+    person: 1,
+    sworn: false,
+};
+
+/// The number of a refusal, or 0 where there is none.
+fn refusal<A: Copy>(answer: Result<A, Fault>) -> u8 {
+    match answer {
+        Ok(_) => 0,
+        Err(fault) => fault.number(),
+    }
+}
+
+/// A draft of so many items.
+fn draft_of(heap: Global, items: u32) -> Result<Sheet, Fault> {
+    let mut draft = Draft::new(heap)?;
+    draft.size(items)?;
+    Ok(draft)
+}
+
+#[test]
+fn sizes(rt: HostRuntime) -> Result<(), Fail> {
+    let mut draft = Sheet::new(rt.alloc()).ok().ok_or("no memory")?;
+    assert_eq!(rt; draft.items(), 1);
+    for (items, number) in [(0, 1), (13, 1), (12, 0), (1, 0), (2, 0)] {
+        assert_eq!(rt; refusal(draft.size(items)), number, "at {items}");
+    }
+    assert_eq!(rt; refusal(draft.enter(GOOD)), 0);
+    assert_eq!(rt; refusal(draft.size(13)), 1);
+    assert_eq!(rt; (draft.items(), draft.entered()), (2, 1));
+    assert_eq!(rt; refusal(draft.size(2)), 0);
+    assert_eq!(rt; draft.entered(), 0);
+    Ok(())
+}
+
+#[test]
+fn entries(rt: HostRuntime) -> Result<(), Fail> {
+    let mut draft = draft_of(rt.alloc(), 2).ok().ok_or("no memory")?;
+    let table = [
+        (Entry { first: 0, ..GOOD }, 2),
+        (Entry { second: 3, ..GOOD }, 2),
+        (
+            Entry {
+                first: 3,
+                second: 3,
+                ..GOOD
+            },
+            2,
+        ),
+        (Entry { first: 2, ..GOOD }, 3),
+        (
+            Entry {
+                set: 8,
+                weight: 0,
+                ..GOOD
+            },
+            4,
+        ),
+        (
+            Entry {
+                weight: 0,
+                person: 0,
+                ..GOOD
+            },
+            5,
+        ),
+        (
+            Entry {
+                weight: 1001,
+                ..GOOD
+            },
+            5,
+        ),
+        (Entry { person: 0, ..GOOD }, 6),
+        (Entry { person: 21, ..GOOD }, 6),
+        (
+            Entry {
+                weight: 1000,
+                person: 20,
+                set: 7,
+                ..GOOD
+            },
+            0,
+        ),
+        (Entry { set: 0, ..GOOD }, 0),
+    ];
+    for (entry, number) in table {
+        assert_eq!(rt; refusal(draft.enter(entry)), number);
+    }
+    assert_eq!(rt; draft.entered(), 2);
+    Ok(())
+}
+
+#[test]
+fn at_most_256(rt: HostRuntime) -> Result<(), Fail> {
+    let mut draft = draft_of(rt.alloc(), 2).ok().ok_or("no memory")?;
+    for number in 1..257u16 {
+        assert!(rt; draft.enter(GOOD) == Ok(number));
+    }
+    assert_eq!(rt; refusal(draft.enter(GOOD)), 7);
+    assert_eq!(rt; refusal(draft.enter(Entry { person: 21, ..GOOD })), 6);
+    assert_eq!(rt; refusal(draft.strike(256)), 0);
+    assert_eq!(rt; refusal(draft.enter(GOOD)), 7);
+    assert_eq!(rt; draft.entered(), 256);
+    Ok(())
+}
+
+#[test]
+fn struck_ones(rt: HostRuntime) -> Result<(), Fail> {
+    let mut draft = draft_of(rt.alloc(), 2).ok().ok_or("no memory")?;
+    assert_eq!(rt; refusal(draft.strike(1)), 8);
+    let turned = Entry {
+        first: 2,
+        second: 1,
+        ..GOOD
+    };
+    assert_eq!(rt;
+        (refusal(draft.enter(turned)), refusal(draft.enter(GOOD))),
+        (0, 0)
+    );
+    for (number, weight, refused) in [(0, 1, 8), (3, 0, 8), (2, 0, 5), (2, 1001, 5), (2, 1000, 0)] {
+        assert_eq!(rt;
+            refusal(draft.reweigh(number, weight)),
+            refused,
+            "at {number} {weight}"
+        );
+    }
+    assert_eq!(rt;
+        (refusal(draft.strike(2)), refusal(draft.strike(2))),
+        (0, 9)
+    );
+    assert_eq!(rt; refusal(draft.reweigh(2, 0)), 9);
+    assert_eq!(rt; (refusal(draft.look(0)), refusal(draft.look(3))), (8, 8));
+    let (first, is_struck) = draft.look(1).ok().ok_or("refused")?;
+    assert_eq!(rt;
+        (first.first, first.second, first.set, is_struck),
+        (1, 2, 4, false)
+    );
+    let (second, is_struck) = draft.look(2).ok().ok_or("refused")?;
+    assert_eq!(rt; (second.set, second.weight, is_struck), (2, 1000, true));
+    Ok(())
+}
