@@ -1,0 +1,2 @@
+-- The lemmas, by topic.
+pub mod Lined

@@ -1,0 +1,6 @@
+// Reports: what is printed of a settled sheet.
+#![tactic(auto)]
+
+pub mod printed;
+pub mod report;
+mod text;
