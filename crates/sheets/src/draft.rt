@@ -6,7 +6,7 @@ ghost use Rattle.rules.specs.Rows.{with-struck, with-weight};
 ghost use Rattle.statements.specs.Drafts.{By-checks, Unchanged, size-checks, enter-checks, row_of, numbered, strike-checks, reweigh-checks, look-checks, Says};
 
 use crate::held::Draft;
-use crate::table::entry_mut;
+use crate::table::Table;
 use kinds::kind::Kind;
 use rules::row::Row;
 use search::ledger::Ledger;
@@ -76,7 +76,7 @@ impl<K: Kind, T: Tally> Draft<K, T> {
         ensures { By-checks (strike-checks self.old.rows.items number) result (λ _. (self.new.items ≡ self.old.items) × (self.new.rows.items ≡ slice_set self.old.rows.items (number - 1) (with-struck (numbered self.old.rows.items number)))) (Unchanged self.old.items self.old.rows.items self.new.items self.new.rows.items) }
     {
         let i = self.find_live(number)?;
-        entry_mut(&mut self.rows, i).struck = true;
+        self.rows.entry_mut(i).struck = true;
         Ok(())
     }
 
@@ -88,7 +88,7 @@ impl<K: Kind, T: Tally> Draft<K, T> {
         if weight < 1 || weight > 1000 {
             return Err(Fault::Weight);
         }
-        entry_mut(&mut self.rows, at).weight = weight as u16;
+        self.rows.entry_mut(at).weight = weight as u16;
         Ok(())
     }
 
