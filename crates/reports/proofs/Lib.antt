@@ -1,2 +1,3 @@
 -- The lemmas, by topic.
 pub mod Lined
+pub mod Remaining
