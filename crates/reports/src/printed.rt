@@ -4,6 +4,7 @@ ghost use Rattle.std.specs.Fmt.{decimal};
 
 use crate::text::push_number;
 use dwellings::{Dwelling, Dwellings};
+use files::letter::TallyLetter;
 use kinds::kind::Kind;
 use kinds::notation::Notation;
 use moments::{Moment, Moments};
@@ -25,16 +26,9 @@ pub trait PrintedKind: Kind + Notation {
 }
 
 /// A tally whose costs can be printed.
-pub trait PrintedTally: Tally {
-    /// The letter of the tally, as a byte.
-    ghost initial: { ℕ };
-
+pub trait PrintedTally: Tally + TallyLetter {
     /// The bytes of a cost.
     ghost cost_text: { Self.Cost → List ℕ };
-
-    /// The letter of the tally.
-    fn letter() -> u8
-        ensures { result ≡ initial };
 
     /// Appends a cost to a text.
     fn write_cost(heap: Global, cost: Self::Cost, text: &mut Vec<u8>) -> Result<(), AllocError>
@@ -72,13 +66,7 @@ impl PrintedKind for Dwellings {
 }
 
 impl PrintedTally for ByWeight {
-    ghost initial = { 119 };
-
     ghost cost_text = { decimal };
-
-    fn letter() -> u8 {
-        b'w'
-    }
 
     fn write_cost(heap: Global, cost: u32, text: &mut Vec<u8>) -> Result<(), AllocError> {
         push_number(heap, text, u64::from(cost))
@@ -87,13 +75,7 @@ impl PrintedTally for ByWeight {
 
 /// The number of sworn statements, and the weight of the others.
 impl PrintedTally for SwornFirst {
-    ghost initial = { 114 };
-
     ghost cost_text = { λ c. decimal c.sworn ++ 47 ∷ decimal c.weight };
-
-    fn letter() -> u8 {
-        b'r'
-    }
 
     fn write_cost(heap: Global, cost: SwornCost, text: &mut Vec<u8>) -> Result<(), AllocError> {
         push_number(heap, text, u64::from(cost.sworn))?;

@@ -4,6 +4,7 @@ ghost use Rattle.reports.specs.Lines.{print, sheet_line, item_line, person_line,
 
 use crate::printed::{PrintedKind, PrintedTally};
 use crate::text::{push_number, put};
+use files::letter::TallyLetter;
 use kinds::notation::Notation;
 use runs::answer::Sight;
 use statements::fault::Fault;
@@ -11,6 +12,7 @@ use std::alloc::{AllocError, Global};
 use tallies::tally::{Joins, Tally};
 
 /// A sheet to report: its number in the file, what was shown of it, and the charges of the persons 1, 2, and so on.
+#[derive(Drop)]
 pub struct Report<'a, V, C> {
     pub number: u64,
     pub sight: &'a Sight<V, C>,
@@ -26,7 +28,7 @@ fn sheet_text<K: PrintedKind, T: PrintedTally>(
     floor: T::Cost,
     finished: bool,
 ) -> Result<Vec<u8>, AllocError>
-    ensures { IfOk result (λ v. v.items ≡ sheet_line (print K.Notation.initial T.PrintedTally.initial K.PrintedKind.value_text T.PrintedTally.cost_text) number items cost floor finished) }
+    ensures { IfOk result (λ v. v.items ≡ sheet_line (print K.Notation.initial T.TallyLetter.initial K.PrintedKind.value_text T.PrintedTally.cost_text) number items cost floor finished) }
 {
     let mut text = Vec::new(heap);
     text.extend_from_slice(b"sheet ")?;
@@ -52,7 +54,7 @@ fn item_text<K: PrintedKind, T: PrintedTally>(
     item: u64,
     value: K::Value,
 ) -> Result<Vec<u8>, AllocError>
-    ensures { IfOk result (λ v. v.items ≡ item_line (print K.Notation.initial T.PrintedTally.initial K.PrintedKind.value_text T.PrintedTally.cost_text) item value) }
+    ensures { IfOk result (λ v. v.items ≡ item_line (print K.Notation.initial T.TallyLetter.initial K.PrintedKind.value_text T.PrintedTally.cost_text) item value) }
 {
     let mut text = Vec::new(heap);
     text.extend_from_slice(b"item ")?;
@@ -69,7 +71,7 @@ fn person_text<K: PrintedKind, T: PrintedTally>(
     person: u64,
     charge: T::Cost,
 ) -> Result<Vec<u8>, AllocError>
-    ensures { IfOk result (λ v. v.items ≡ person_line (print K.Notation.initial T.PrintedTally.initial K.PrintedKind.value_text T.PrintedTally.cost_text) (λ c. T.Tally.order c T.Joins.joining.empty) person charge) }
+    ensures { IfOk result (λ v. v.items ≡ person_line (print K.Notation.initial T.TallyLetter.initial K.PrintedKind.value_text T.PrintedTally.cost_text) (λ c. T.Tally.order c T.Joins.joining.empty) person charge) }
 {
     let mut text = Vec::new(heap);
     if T::at_most(charge, T::empty()) {
@@ -89,7 +91,7 @@ fn push_items<K: PrintedKind, T: PrintedTally>(
     text: &mut Vec<u8>,
     values: &[K::Value],
 ) -> Result<(), AllocError>
-    ensures { OnOk result (text.new.items ≡ text.old.items ++ lines_from (item_line (print K.Notation.initial T.PrintedTally.initial K.PrintedKind.value_text T.PrintedTally.cost_text)) 1 values.now) }
+    ensures { OnOk result (text.new.items ≡ text.old.items ++ lines_from (item_line (print K.Notation.initial T.TallyLetter.initial K.PrintedKind.value_text T.PrintedTally.cost_text)) 1 values.now) }
 {
     for (i, value) in values.iter().enumerate() {
         let line = item_text::<K, T>(heap, i as u64 + 1, *value)?;
@@ -104,7 +106,7 @@ fn push_persons<K: PrintedKind, T: PrintedTally>(
     text: &mut Vec<u8>,
     charges: &[T::Cost],
 ) -> Result<(), AllocError>
-    ensures { OnOk result (text.new.items ≡ text.old.items ++ lines_from (person_line (print K.Notation.initial T.PrintedTally.initial K.PrintedKind.value_text T.PrintedTally.cost_text) (λ c. T.Tally.order c T.Joins.joining.empty)) 1 charges.now) }
+    ensures { OnOk result (text.new.items ≡ text.old.items ++ lines_from (person_line (print K.Notation.initial T.TallyLetter.initial K.PrintedKind.value_text T.PrintedTally.cost_text) (λ c. T.Tally.order c T.Joins.joining.empty)) 1 charges.now) }
 {
     for (i, charge) in charges.iter().enumerate() {
         let line = person_text::<K, T>(heap, i as u64 + 1, *charge)?;
@@ -118,7 +120,7 @@ fn report_text<K: PrintedKind, T: PrintedTally>(
     heap: Global,
     report: &Report<K::Value, T::Cost>,
 ) -> Result<Vec<u8>, AllocError>
-    ensures { IfOk result (λ v. v.items ≡ report_of (print K.Notation.initial T.PrintedTally.initial K.PrintedKind.value_text T.PrintedTally.cost_text) (λ c. T.Tally.order c T.Joins.joining.empty) report.now.number report.now.sight.now.values.items report.now.sight.now.cost report.now.sight.now.floor report.now.sight.now.finished report.now.charges.now) }
+    ensures { IfOk result (λ v. v.items ≡ report_of (print K.Notation.initial T.TallyLetter.initial K.PrintedKind.value_text T.PrintedTally.cost_text) (λ c. T.Tally.order c T.Joins.joining.empty) report.now.number report.now.sight.now.values.items report.now.sight.now.cost report.now.sight.now.floor report.now.sight.now.finished report.now.charges.now) }
 {
     let sight = report.sight;
     let values = sight.values.as_slice();
@@ -143,7 +145,7 @@ pub fn write_report<K: PrintedKind, T: PrintedTally>(
     report: &Report<K::Value, T::Cost>,
     buffer: &mut [u8],
 ) -> Result<usize, Fault>
-    ensures { Puts-or-wants (report_of (print K.Notation.initial T.PrintedTally.initial K.PrintedKind.value_text T.PrintedTally.cost_text) (λ c. T.Tally.order c T.Joins.joining.empty) report.now.number report.now.sight.now.values.items report.now.sight.now.cost report.now.sight.now.floor report.now.sight.now.finished report.now.charges.now) buffer.old buffer.new result }
+    ensures { Puts-or-wants (report_of (print K.Notation.initial T.TallyLetter.initial K.PrintedKind.value_text T.PrintedTally.cost_text) (λ c. T.Tally.order c T.Joins.joining.empty) report.now.number report.now.sight.now.values.items report.now.sight.now.cost report.now.sight.now.floor report.now.sight.now.finished report.now.charges.now) buffer.old buffer.new result }
 {
     match report_text::<K, T>(heap, report) {
         Ok(text) => put(buffer, text.as_slice()),

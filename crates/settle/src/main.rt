@@ -1,0 +1,149 @@
+// Reads a sheet file from standard input, settles each of its sheets, and prints what it found.
+#![tactic(auto)]
+
+use anyhow::anyhow;
+use dwellings::Dwellings;
+use files::calls::LARGEST;
+use files::fault::SheetFault;
+use files::head::Head;
+use files::reader::Reader;
+use moments::Moments;
+use reports::fault::write_fault;
+use reports::found::{charges_in, first_sight};
+use reports::printed::{PrintedKind, PrintedTally};
+use reports::report::{Report, write_report};
+use runs::call::Call;
+use runs::replay::replay;
+use sheets::held::Draft;
+use spells::Spells;
+use std::alloc::{AllocError, Global};
+use std::io;
+use std::io::{Read, Write};
+use std::process::ExitCode;
+use tallies::by_weight::ByWeight;
+use tallies::sworn_first::SwornFirst;
+
+// The steps that each sheet is given.
+const STEPS: u32 = 1_000_000;
+
+// The bytes that a report or a fault takes at most: a line for the sheet, for each of 12 items and for each of 20 persons.
+const LONGEST_REPORT: usize = 4096;
+
+/// All of standard input, or as much as shows that it is longer than a file may be.
+fn read_file(rt: HostRuntime) -> io::Result<Vec<u8>> {
+    let mut input = rt.stdin();
+    let mut file = Vec::new(rt.alloc());
+    let mut part = [0u8; 4096];
+    for _ in 0..u64::MAX {
+        let count = input.read(&mut part)?;
+        file.extend_from_slice(&part[..count])?;
+        if count == 0 || file.len() > LARGEST {
+            break;
+        }
+    }
+    Ok(file)
+}
+
+/// What is done with a sheet: it is closed, searched, shown, and each person is charged.
+fn settling(heap: Global) -> Result<Vec<Call>, AllocError> {
+    let mut script = Vec::new(heap);
+    script.push(Call::Close)?;
+    script.push(Call::Search(STEPS))?;
+    script.push(Call::Show(12))?;
+    for person in 1..21 {
+        script.push(Call::Charge(person))?;
+    }
+    Ok(script)
+}
+
+fn print_bytes(rt: HostRuntime, bytes: &[u8]) -> io::Result<()> {
+    io::writer(&rt).write_all(bytes)
+}
+
+fn print_fault(rt: HostRuntime, fault: SheetFault) -> anyhow::Result<()> {
+    let mut buffer = [0u8; LONGEST_REPORT];
+    match write_fault(rt.alloc(), &fault, &mut buffer) {
+        Ok(length) => print_bytes(rt, &buffer[..length])?,
+        Err(refusal) => return Err(anyhow!("refused by {}", refusal.number())),
+    }
+    Ok(())
+}
+
+/// Loads and settles the sheet whose head waits, and prints the report; or answers why it cannot be loaded.
+fn settle<K: PrintedKind, T: PrintedTally>(
+    rt: HostRuntime,
+    reader: &mut Reader,
+    number: u64,
+) -> anyhow::Result<Option<SheetFault>> {
+    let heap = rt.alloc();
+    let mut draft = match Draft::<K, T>::new(heap) {
+        Ok(draft) => draft,
+        Err(refusal) => return Err(anyhow!("refused by {}", refusal.number())),
+    };
+    match reader.load(&mut draft) {
+        Ok(()) => {}
+        Err(fault) => return Ok(Some(fault)),
+    }
+    let script = settling(heap)?;
+    let answers = replay(heap, draft, script.as_slice())?;
+    let charges = charges_in(heap, answers.as_slice())?;
+    let Some(sight) = first_sight(answers.as_slice()) else {
+        return Err(anyhow!("nothing was shown"));
+    };
+    let report = Report {
+        number,
+        sight,
+        charges: charges.as_slice(),
+    };
+    let mut buffer = [0u8; LONGEST_REPORT];
+    match write_report::<K, T>(heap, &report, &mut buffer) {
+        Ok(length) => print_bytes(rt, &buffer[..length])?,
+        Err(refusal) => return Err(anyhow!("refused by {}", refusal.number())),
+    }
+    Ok(None)
+}
+
+/// The sheet whose head waits, by its letters.
+fn settle_one(
+    rt: HostRuntime,
+    reader: &mut Reader,
+    head: Head,
+    number: u64,
+) -> anyhow::Result<Option<SheetFault>> {
+    match (head.letter, head.tally) {
+        (b'M', b'w') => settle::<Moments, ByWeight>(rt, reader, number),
+        (b'M', b'r') => settle::<Moments, SwornFirst>(rt, reader, number),
+        (b'S', b'w') => settle::<Spells, ByWeight>(rt, reader, number),
+        (b'S', b'r') => settle::<Spells, SwornFirst>(rt, reader, number),
+        (b'D', b'w') => settle::<Dwellings, ByWeight>(rt, reader, number),
+        (b'D', b'r') => settle::<Dwellings, SwornFirst>(rt, reader, number),
+        _ => Err(anyhow!("a head of an unknown kind or tally")),
+    }
+}
+
+/// Settles the sheets of a file, and answers the fault that ends the run, if any.
+fn settle_all(rt: HostRuntime, file: &[u8]) -> anyhow::Result<Option<SheetFault>> {
+    let mut reader = Reader::new(file);
+    for number in 1..u64::MAX {
+        let fault = match reader.next_head() {
+            Ok(Some(head)) => settle_one(rt, &mut reader, head, number)?,
+            Ok(None) => return Ok(None),
+            Err(fault) => Some(fault),
+        };
+        if fault.is_some() {
+            return Ok(fault);
+        }
+    }
+    Ok(None)
+}
+
+fn main(rt: HostRuntime) -> anyhow::Result<ExitCode> {
+    let file = read_file(rt)?;
+    match settle_all(rt, file.as_slice())? {
+        Some(fault) => {
+            print_fault(rt, fault)?;
+            Ok(ExitCode::FAILURE)
+        }
+        None => Ok(ExitCode::SUCCESS),
+    }
+}
