@@ -22,7 +22,7 @@ pass-risen-requires g c =
     record {
       coded = (self.coded, self.narrow);
       within = (
-        c.if-length-count.true,
+        omega (arith, c.if-length-count.true),
         (omega (arith, c.requires.within.1, c.pairs-count.ensures), omega (arith, pairs-few c.args.self.now.items c.args.self.now.few, c.pairs-count.ensures)),
       );
       blank = subst (λ (p : ℕ). Blank c.args.filled (take p c.args.self.now.cursor)) (sym c.pairs-count.ensures) c.requires.blank;
