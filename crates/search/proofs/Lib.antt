@@ -3,3 +3,4 @@ pub mod Listed
 pub mod Closed
 pub mod Loops
 pub mod Prefixes
+pub mod Blanks

@@ -1,5 +1,5 @@
 -- What the loop of a search keeps, so that a step looks only at what changed: costs of pairs, bounds of the remaining pairs, costs of
--- prefixes, and how long the prefixes are that are known not to be refuted.
+-- prefixes, how long the prefixes are that are known not to be refuted, and from which place on the codes are 0.
 use Rattle.std.specs.Prelude.{◌≡◌, ℕ, ◌+◌, ◌-◌, ◌*◌, ◌<◌, ◌≤◌, Bool, false, List, length, slice_index, slice_index_or}
 use Rattle.points.specs.Scenarios.{pairs, entry}
 use Rattle.tallies.specs.Joins.{Joining}
@@ -31,6 +31,10 @@ Spent j rows a m spent = (q : ℕ) → q < m → slice_index_or spent q j.empty 
 -- No prefix of a that is shorter than m is refuted against the cost best.
 abbrev pub Stands : {C : Type 0} → Rules C → ℕ → List Row → C → List ℕ → ℕ → Type 0
 Stands r n rows best a m = (q : ℕ) → q < m → refuted r n rows best a q ≡ false
+
+-- The codes of a are 0 from place m on.
+abbrev pub Blank : ℕ → List ℕ → Type 0
+Blank m a = (k : ℕ) → m ≤ k → slice_index a k ≡ 0
 
 -- The two tables of a sheet.
 pub record Tabled {C : Type 0} (r : Rules C) (n : ℕ) (rows : List Row) (prices owed : List C) : Type 0 where

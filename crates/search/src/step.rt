@@ -4,7 +4,7 @@ ghost use Rattle.points.specs.Scenarios.{pairs as pairs_of, entry as entry_of};
 ghost use Rattle.rules.specs.Costs.{cost as cost-of};
 ghost use Rattle.rules.specs.Steps.{step as step_of_lem, advance as advance-of, taken as Taken-of};
 ghost use Rattle.search.specs.Closed.{rows_of, incumbent-of, cursor-of, position-of, rules-of};
-ghost use Rattle.search.specs.Tables.{Tabled, Known};
+ghost use Rattle.search.specs.Tables.{Tabled, Known, Blank};
 
 use crate::cursor::pass;
 use crate::ledger::Ledger;
@@ -14,23 +14,26 @@ use points::scenario::pairs;
 use tallies::tally::{Joins, Tally};
 
 impl Sheet {
-    // One step of a search that goes on: the cost of the incumbent then, and how long the prefixes at the cursor are that are known not
-    // to be refuted.
+    // One step of a search that goes on: the cost of the incumbent then, how long the prefixes at the cursor are that are known not to be
+    // refuted, and the place from which on its codes are 0.
     fn step<K: Kind, T: Tally>(
         &mut self,
         prices: &[T::Cost],
         owed: &[T::Cost],
         spent: &mut [T::Cost],
         from: usize,
+        filled: usize,
         best: T::Cost,
-    ) -> (T::Cost, usize)
+    ) -> (T::Cost, usize, usize)
         requires going { self.old.going ≡ true }
-        requires within { from ≤ pairs_of self.old.items }
+        requires within { (from ≤ pairs_of self.old.items) × (filled ≤ pairs_of self.old.items) }
+        requires blank { Blank filled (cursor-of self.old) }
         requires best { best ≡ cost-of T.Joins.joining (rows_of self.old) (entry_of (incumbent-of self.old)) }
         requires tabled { Tabled (rules-of self.old K.Kind.fit T.Joins.joining T.Tally.order) self.old.items (rows_of self.old) prices.now owed.now }
         requires known { Known (rules-of self.old K.Kind.fit T.Joins.joining T.Tally.order) self.old.items (rows_of self.old) best (cursor-of self.old) from spent.old }
         ensures stepped { position-of self.new ≡ step_of_lem (rules-of self.old K.Kind.fit T.Joins.joining T.Tally.order) self.old.items (rows_of self.old) (position-of self.old) }
-        ensures within { result.1 ≤ pairs_of self.old.items }
+        ensures within { (result.1 ≤ pairs_of self.old.items) × (result.2 ≤ pairs_of self.old.items) }
+        ensures blank { Blank result.2 (cursor-of self.new) }
         ensures best { result.0 ≡ cost-of T.Joins.joining (rows_of self.old) (entry_of (incumbent-of self.new)) }
         ensures known { Known (rules-of self.old K.Kind.fit T.Joins.joining T.Tally.order) self.old.items (rows_of self.old) result.0 (cursor-of self.new) result.1 spent.new }
         ensures parts { (self.new.items ≡ self.old.items) × (self.new.rows ≡ self.old.rows) × (self.new.codes ≡ self.old.codes) }
@@ -39,15 +42,15 @@ impl Sheet {
         let codes = self.codes;
         let length = self.shortest::<K, T>(prices, owed, spent, from, best);
         if length <= count {
-            let risen = pass(&mut self.cursor, count, codes, length);
+            let risen = pass(&mut self.cursor, count, codes, length, filled);
             self.going = risen > 0;
-            return (best, risen);
+            return (best, risen, risen);
         }
         let scenario = self.cursor;
         self.incumbent = scenario;
-        let risen = pass(&mut self.cursor, count, codes, count);
+        let risen = pass(&mut self.cursor, count, codes, count, filled);
         self.going = risen > 0;
-        (spent[count], 0)
+        (spent[count], 0, risen)
     }
 
     // The steps of a search, by tables of the lengths that it needs: the costs of the pairs and the bounds are filled in first.
@@ -66,11 +69,13 @@ impl Sheet {
         self.fill::<T>(prices, owed);
         let mut best = self.cost::<T>();
         let mut from = 0;
+        let mut filled = pairs(self.items);
         let mut taken = 0;
         while taken < steps && self.going {
-            let (cost, length) = self.step::<K, T>(prices, owed, spent, from, best);
+            let (cost, length, risen) = self.step::<K, T>(prices, owed, spent, from, filled, best);
             best = cost;
             from = length;
+            filled = risen;
             taken += 1;
         }
         taken

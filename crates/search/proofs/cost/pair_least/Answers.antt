@@ -1,16 +1,13 @@
 -- One more code with each turn.
-use Rattle.std.proofs.Common.{◌≡◌, ℕ, ◌+◌, sym, ap, ◌∙◌, arith}
+use Rattle.std.proofs.Common.{◌≡◌, ℕ, ap, ◌∙◌, arith}
 use Rattle.rules.specs.Costs.{pair-bound}
-use Rattle.search.proofs.Loops.{pair-bound-more}
+use Rattle.search.proofs.Loops.{pair-bound-more, turn-lesser}
 use Rattle.search.proofs.cost.pair_least.Goals as goal
 
 pub loop-code-preserved : goal.loop-code-preserved
 loop-code-preserved g c =
-    let more = pair-bound-more g.T.Joins.joining g.T.Tally.order c.args.rows.now c.loop-code.code c.args.spot c.loop-code.auto.code in
-    let price = c.pair_price.ensures in
-    let was : c.loop-code.least ≡ pair-bound g.T.Joins.joining g.T.Tally.order c.loop-code.code c.args.rows.now c.args.spot = c.loop-code.invariant in
-    let now : c.lesser-least.result ≡ pair-bound g.T.Joins.joining g.T.Tally.order (c.loop-code.code + 1) c.args.rows.now c.args.spot = cc in
-    now
+    turn-lesser g.T.Tally.order c.pair_price.ensures c.loop-code.invariant
+    (pair-bound-more g.T.Joins.joining g.T.Tally.order c.args.rows.now c.loop-code.code c.args.spot c.loop-code.auto.code) c.lesser-least.ensures
 
 pub returns : goal.returns
 returns g c =

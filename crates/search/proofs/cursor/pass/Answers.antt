@@ -1,16 +1,20 @@
 -- The first codes of the array, as the part has them.
-use Rattle.std.proofs.Common.{◌≡◌, ℕ, ◌+◌, ◌-◌, ◌^◌, ◌<◌, ◌≤◌, List, ◌++◌, length, take, drop, sym, refl, ap, ◌∙◌, subst, arith}
+use Rattle.std.proofs.Common.{◌≡◌, ℕ, ◌-◌, ◌^◌, List, ◌++◌, length, take, drop, sym, ap, ◌∙◌, subst, arith}
 use Rattle.std.proofs.lemmas.List.{length-take-le, length-append, length-drop, take_at}
 use Rattle.rules.specs.Orders.{Below, index, past}
+use Rattle.search.specs.Tables.{Blank}
 use Rattle.search.proofs.cursor.pass.Goals as goal
 
 pub rise-requires : goal.rise-requires
 rise-requires c =
     let same : c.args.count - 0 ≡ c.args.count = omega arith in
     let part : take (c.args.count - 0) c.args.cursor.now ≡ take c.args.count c.args.cursor.now = ap (λ (k : ℕ). take k c.args.cursor.now) same in
+    let few : length (take (c.args.count - 0) c.args.cursor.now) ≡ c.args.count =
+    length-take-le (c.args.count - 0) c.args.cursor.now (omega (arith, c.requires.wide, c.requires.within)) ∙ same in
     record {
       coded = c.requires.coded;
-      within = omega (arith, length-take-le (c.args.count - 0) c.args.cursor.now (omega (arith, c.requires.wide, c.requires.within)), c.requires.within);
+      within = (omega (arith, few, c.requires.within), omega (arith, few, c.requires.within));
+      blank = subst (Blank c.args.filled) (sym part) c.requires.blank;
       low = subst (Below c.args.codes) (sym part) c.requires.low;
     }
 
@@ -40,5 +44,6 @@ returns c =
         subst (Below codes) (sym front) c.rise.ensures.low,
       );
       within = c.rise.ensures.within;
+      blank = subst (Blank c.rise.result) (sym front) c.rise.ensures.blank;
       shares = ap (take (c.rise.result - 1)) front ∙ c.rise.ensures.shares ∙ ap (take (c.rise.result - 1)) part;
     }

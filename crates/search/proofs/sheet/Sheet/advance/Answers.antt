@@ -1,5 +1,5 @@
 -- One more step with each turn, by the tables of the sheet as it began.
-use Rattle.std.proofs.Common.{◌≡◌, ℕ, ◌+◌, ◌-◌, ◌^◌, ◌<◌, ◌≤◌, Bool, true, false, List, length, vec_items, Vec, sym, refl, ap, ◌∙◌, subst, arith, rules}
+use Rattle.std.proofs.Common.{◌≡◌, ℕ, ◌^◌, ◌<◌, ◌≤◌, length, vec_items, Vec, sym, refl, ◌∙◌, arith}
 use Rattle.std.specs.declared.alloc.Global.{Global}
 use Rattle.points.specs.Scenarios.{pairs, entry}
 use Rattle.rules.specs.declared.row.Row.{Row}
@@ -8,7 +8,8 @@ use Rattle.rules.specs.Costs.{cost}
 use Rattle.search.specs.Closed.{rows_of, incumbent-of, cursor-of, position-of, rules-of}
 use Rattle.rules.specs.Steps.{Rules, step}
 use Rattle.search.specs.Tables.{Tabled, Known}
-use Rattle.search.proofs.Closed.{carried, going-room, done-room}
+use Rattle.search.proofs.Closed.{carried, going-room, done-room, cursor-long}
+use Rattle.search.proofs.Blanks.{blank-end}
 use Rattle.rules.proofs.Advances.{under-way-none, under-way-more, under-way-all, under-way-done}
 use Rattle.search.proofs.sheet.Sheet.advance.Goals as goal
 
@@ -26,6 +27,8 @@ loop-taken-init g c =
       omega arith,
       c.cost-best.ensures,
       record { long = long; costs = λ z l. absurd (omega (arith, l)); stands = λ z l. absurd (omega (arith, l)) },
+      omega (arith, c.pairs-filled.ensures),
+      blank-end c.pairs-filled.result (cursor-of self) (omega (arith, c.pairs-filled.ensures, cursor-long c.args.self.now)),
     )
 
 pub step-cost-requires : goal.step-cost-requires
@@ -37,7 +40,11 @@ step-cost-requires g c =
     let same : (begun.items ≡ self.items) × (begun.rows ≡ self.rows) × (begun.codes ≡ self.codes) = (sym inv.0, sym inv.1, sym inv.2) in
     record {
       going = c.if-self.true;
-      within = carried (λ (n : ℕ) (v : Vec Row Global) (b : ℕ). c.loop-taken.from ≤ pairs n) begun self same inv.4;
+      within = (
+        carried (λ (n : ℕ) (v : Vec Row Global) (b : ℕ). c.loop-taken.from ≤ pairs n) begun self same inv.4,
+        carried (λ (n : ℕ) (v : Vec Row Global) (b : ℕ). c.loop-taken.filled ≤ pairs n) begun self same inv.7,
+      );
+      blank = inv.8;
       best = carried (λ (n : ℕ) (v : Vec Row Global) (b : ℕ). c.loop-taken.best ≡ cost j (vec_items v) (entry (incumbent-of c.loop-taken.self))) begun self same inv.5;
       tabled = carried (λ (n : ℕ) (v : Vec Row Global) (b : ℕ). Tabled (record { codes = b; fit = g.K.Kind.fit; joining = j; at_most = g.T.Tally.order }) n (vec_items v) c.fill.new.prices c.fill.new.owed)
           begun self same (c.fill.ensures g.K.Kind.fit);
@@ -65,10 +72,12 @@ loop-taken-preserved g c =
       e.parts.2 ∙ inv.2,
       under-way-more r begun.items (rows_of begun) c.args.steps c.loop-taken.taken (position-of begun) (position-of self) (position-of after)
           inv.3 c.loop-taken-test.true room is,
-      carried (λ (n : ℕ) (v : Vec Row Global) (b : ℕ). c.step-cost.result.1 ≤ pairs n) self begun same e.within,
+      carried (λ (n : ℕ) (v : Vec Row Global) (b : ℕ). c.step-cost.result.1 ≤ pairs n) self begun same e.within.0,
       carried (λ (n : ℕ) (v : Vec Row Global) (b : ℕ). c.step-cost.result.0 ≡ cost j (vec_items v) (entry (incumbent-of c.step-cost.new.self))) self begun same e.best,
       carried (λ (n : ℕ) (v : Vec Row Global) (b : ℕ). Known (record { codes = b; fit = g.K.Kind.fit; joining = j; at_most = g.T.Tally.order }) n (vec_items v) c.step-cost.result.0 (cursor-of c.step-cost.new.self) c.step-cost.result.1 c.step-cost.new.spent)
           self begun same e.known,
+      carried (λ (n : ℕ) (v : Vec Row Global) (b : ℕ). c.step-cost.result.2 ≤ pairs n) self begun same e.within.1,
+      e.blank,
     )
 
 pub returns-else-self : goal.returns-else-self

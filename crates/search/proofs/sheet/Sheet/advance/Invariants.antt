@@ -1,9 +1,10 @@
--- The search is under way from where it began; the cost of the incumbent and what is known of the prefixes at the cursor are kept.
+-- The search is under way from where it began; the cost of the incumbent, what is known of the prefixes at the cursor, and from where on
+-- its codes are 0, are kept.
 use Rattle.std.proofs.Common.{◌≡◌, ◌-◌, ◌≤◌}
 use Rattle.points.specs.Scenarios.{pairs, entry}
 use Rattle.rules.specs.Costs.{cost}
 use Rattle.search.specs.Closed.{rows_of, incumbent-of, cursor-of, position-of, rules-of}
-use Rattle.search.specs.Tables.{Known}
+use Rattle.search.specs.Tables.{Known, Blank}
 use Rattle.rules.proofs.Advances.{Under-way}
 use Rattle.search.proofs.sheet.Sheet.advance.Given as goal
 
@@ -17,6 +18,8 @@ invariant-loop-taken g l =
     × (l.from ≤ pairs l.initial.self.items)
     × (l.best ≡ cost g.T.Joins.joining (rows_of l.initial.self) (entry (incumbent-of l.self)))
     × Known r l.initial.self.items (rows_of l.initial.self) l.best (cursor-of l.self) l.from l.spent
+    × (l.filled ≤ pairs l.initial.self.items)
+    × Blank l.filled (cursor-of l.self)
 
 abbrev pub decreases-loop-taken : goal.decreases-loop-taken
 decreases-loop-taken g l = l.steps - l.taken

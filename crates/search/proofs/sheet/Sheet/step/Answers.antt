@@ -1,5 +1,5 @@
 -- A step past the shortest refuted prefix, or to a better incumbent.
-use Rattle.std.proofs.Common.{◌≡◌, ℕ, ◌+◌, ◌-◌, ◌^◌, ◌<◌, ◌≤◌, Bool, true, false, cond, ltb, List, length, get_or, take, sym, refl, ap, ◌∙◌, subst, arith, rules}
+use Rattle.std.proofs.Common.{◌≡◌, ℕ, ◌-◌, ◌^◌, ◌<◌, ◌≤◌, Bool, true, cond, ltb, List, take, sym, refl, ap, ◌∙◌, subst, arith, rules}
 use Rattle.std.proofs.lemmas.List.{get_or_default}
 use Rattle.std.proofs.lemmas.Bool.{ltb-true, ltb-false}
 use Rattle.points.specs.Scenarios.{pairs, entry}
@@ -7,8 +7,8 @@ use Rattle.rules.specs.Costs.{cost}
 use Rattle.search.specs.Closed.{rows_of, incumbent-of, cursor-of, rules-of}
 use Rattle.rules.specs.Orders.{Below, index, past}
 use Rattle.search.specs.Sheets.{all-below}
-use Rattle.rules.specs.Steps.{Rules, position, step}
-use Rattle.search.specs.Tables.{spent-on}
+use Rattle.rules.specs.Steps.{position, step}
+use Rattle.search.specs.Tables.{spent-on, Blank}
 use Rattle.rules.proofs.Properly.{proper-is}
 use Rattle.search.proofs.Closed.{pairs-few, below-from, all-below-from, cursor-long}
 use Rattle.rules.proofs.Costs.{pairs-join}
@@ -21,7 +21,11 @@ pass-risen-requires g c =
     let self = c.args.self.now in
     record {
       coded = (self.coded, self.narrow);
-      within = (c.if-length-count.true, omega (arith, pairs-few c.args.self.now.items c.args.self.now.few, c.pairs-count.ensures));
+      within = (
+        omega (arith, c.if-length-count.true),
+        (omega (arith, c.requires.within.1, c.pairs-count.ensures), omega (arith, pairs-few c.args.self.now.items c.args.self.now.few, c.pairs-count.ensures)),
+      );
+      blank = subst (λ (p : ℕ). Blank c.args.filled (take p c.args.self.now.cursor)) (sym c.pairs-count.ensures) c.requires.blank;
       wide = self.wide;
       low = subst (λ (p : ℕ). Below c.args.self.now.codes (take p c.args.self.now.cursor)) (sym c.pairs-count.ensures) (below-from self.codes (cursor-of self) self.marked);
     }
@@ -31,7 +35,11 @@ pass-risen-requires-2 g c =
     let self = c.args.self.now in
     record {
       coded = (self.coded, self.narrow);
-      within = (omega arith, omega (arith, pairs-few c.args.self.now.items c.args.self.now.few, c.pairs-count.ensures));
+      within = (
+        omega arith,
+        (omega (arith, c.requires.within.1, c.pairs-count.ensures), omega (arith, pairs-few c.args.self.now.items c.args.self.now.few, c.pairs-count.ensures)),
+      );
+      blank = subst (λ (p : ℕ). Blank c.args.filled (take p c.args.self.now.cursor)) (sym c.pairs-count.ensures) c.requires.blank;
       wide = self.wide;
       low = subst (λ (p : ℕ). Below c.args.self.now.codes (take p c.args.self.now.cursor)) (sym c.pairs-count.ensures) (below-from self.codes (cursor-of self) self.marked);
     }
@@ -105,7 +113,8 @@ returns-then-length-count g c =
           c.args.best c.requires.best q c.shortest-length.ensures.is within (ltb 0 risen) (take (pairs n) out)
           (λ v. moved (ltb-true 0 risen v)) (λ v. ended (omega (arith, ltb-false 0 c.pass-risen.result v)))
           ∙ ap (λ (v : Bool). step r n (rows_of self) (position (incumbent-of self) (cond v (index b (cursor-of self)) (b ^ pairs n)))) (sym c.requires.going);
-      within = omega (arith, e.within, within);
+      within = (omega (arith, e.within, within), omega (arith, e.within, within));
+      blank = subst (λ (p : ℕ). Blank c.pass-risen.result (take p c.pass-risen.new.cursor)) c.pairs-count.ensures e.blank;
       best = c.requires.best;
       known = record {
         long = known.long;
@@ -143,7 +152,8 @@ returns g c =
           c.args.best c.requires.best q c.shortest-length.ensures.is beyond (ltb 0 risen) (take (pairs n) out)
           (λ v. moved (ltb-true 0 risen v)) (λ v. ended (omega (arith, ltb-false 0 c.pass-risen-2.result v)))
           ∙ ap (λ (v : Bool). step r n (rows_of self) (position (incumbent-of self) (cond v (index b (cursor-of self)) (b ^ pairs n)))) (sym c.requires.going);
-      within = omega arith;
+      within = (omega arith, omega (arith, e.within, c.pairs-count.ensures));
+      blank = subst (λ (p : ℕ). Blank c.pass-risen-2.result (take p c.pass-risen-2.new.cursor)) c.pairs-count.ensures e.blank;
       best = best;
       known = record { long = known.long; costs = λ z l. absurd (omega (arith, l)); stands = λ z l. absurd (omega (arith, l)) };
       parts = (refl, refl, refl);
