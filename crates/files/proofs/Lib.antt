@@ -1,0 +1,6 @@
+pub mod Parting
+pub mod Digits
+pub mod Sets
+pub mod Seeking
+pub mod Standing
+pub mod Loading

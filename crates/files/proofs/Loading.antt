@@ -1,0 +1,107 @@
+-- A statement's line, taken by a draft, and the statements one after another.
+use Rattle.std.proofs.Common.{◌≡◌, ℕ, suc, ◌+◌, false, cond, List, [], ◌∷◌, ◌++◌, take, drop, Some, None, Ok, Err, Option, Result, sym, refl, ap, ◌∙◌, append_assoc, append-nil, arith}
+use Rattle.rules.specs.declared.row.Row.{Row}
+use Rattle.statements.specs.declared.entry.Entry.{Entry}
+use Rattle.statements.specs.declared.fault.Fault.{Fault}
+use Rattle.files.specs.declared.fault.LineFault.{LineFault}
+use Rattle.files.specs.declared.fault.LineFault.TheVariants.{Draft}
+use Rattle.files.specs.declared.fault.At.{At}
+use Rattle.files.specs.declared.fault.Place.{Place}
+use Rattle.files.specs.Faults.{first, answered, placed_at}
+use Rattle.files.specs.Drafts.{refused_at, refused_line, line_fault, row_in}
+use Rattle.files.specs.Heads.{is_head}
+use Rattle.files.specs.Sheets.{before, onward}
+use Rattle.files.specs.Loads.{body, body_fault, rows_in}
+use Rattle.files.specs.Words.{Spelling}
+
+-- the line itself is unfit
+pub line-unfit : (a b : Option LineFault) (e : Entry) (f : LineFault) → Err f ≡ answered a e → Err f ≡ answered (first (a ∷ b ∷ [])) (tt {0})
+line-unfit (Some g) b e f h = cc
+line-unfit None b e f h = cc
+
+refused : (g : Fault → ℕ) (o : Option Fault) (d : At ℕ Fault) → Err d ≡ refused_at g o → Err (Draft d.place d.fault) ≡ answered (first (refused_line g o ∷ [])) (tt {0})
+refused g (Some f) d h = let s : d ≡ record { place = g f; fault = f } = cc in ap (λ x. Err (Draft x.place x.fault)) s
+refused g None d h = cc
+
+-- the line is fit, and the draft refuses its entry
+pub entry-refused : (a : Option LineFault) (g : Entry → Fault → ℕ) (k : Entry → Option Fault) (x e : Entry) (d : At ℕ Fault) → Ok x ≡ answered a e → Err d ≡ refused_at (g x) (k x) → Err (Draft d.place d.fault) ≡ answered (first (a ∷ refused_line (g e) (k e) ∷ [])) (tt {0})
+entry-refused (Some f) g k x e d h r = cc
+entry-refused None g k x e d h r = let s : x ≡ e = cc in refused (g x) (k x) d r ∙ ap (λ y. answered (first (refused_line (g y) (k y) ∷ [])) (tt {0})) s
+
+accepted : (g : Fault → ℕ) (o : Option Fault) → Ok tt ≡ refused_at g o → Ok (tt {0}) ≡ answered (first (refused_line g o ∷ [])) (tt {0})
+accepted g (Some f) h = cc
+accepted g None h = refl
+
+-- and it takes its entry
+pub entry-accepted : (a : Option LineFault) (g : Entry → Fault → ℕ) (k : Entry → Option Fault) (x e : Entry) → Ok x ≡ answered a e → Ok tt ≡ refused_at (g x) (k x) → Ok (tt {0}) ≡ answered (first (a ∷ refused_line (g e) (k e) ∷ [])) (tt {0})
+entry-accepted (Some f) g k x e h r = cc
+entry-accepted None g k x e h r = let s : x ≡ e = cc in accepted (g x) (k x) r ∙ ap (λ y. answered (first (refused_line (g y) (k y) ∷ [])) (tt {0})) s
+
+-- a fit line gives its entry
+pub entry-same : (a : Option LineFault) (x e : Entry) → Ok x ≡ answered a e → x ≡ e
+entry-same (Some f) x e h = cc
+entry-same None x e h = cc
+
+-- from place q, with ms still to come and the rows now entered, a load goes as from p with ls
+pub record Loads (s : Spelling) (items : ℕ) (p : Place) (ls : List (List ℕ)) (rows : List Row) (q : Place) (ms : List (List ℕ)) (now : List Row) : Type 0 where
+  pub fault : body_fault s items q now (body ms) ≡ body_fault s items p rows (body ls)
+  pub all : now ++ rows_in s (body ms) ≡ rows ++ rows_in s (body ls)
+  pub rest : drop (before ms) ms ≡ drop (before ls) ls
+  pub line : q.line + before ms ≡ p.line + before ls
+  pub sheet : q.sheet ≡ p.sheet
+
+fit : {F : Type 0} (o : Option F) → Ok (tt {0}) ≡ answered o (tt {0}) → o ≡ None
+fit (Some g) h = cc
+fit None h = refl
+
+unfit : {F : Type 0} (o : Option F) (f : F) → Err f ≡ answered o (tt {0}) → o ≡ Some f
+unfit (Some g) f h = cc
+unfit None f h = cc
+
+before_more : (l : List ℕ) (ns ms : List (List ℕ)) → is_head l ≡ false → ms ≡ l ∷ ns → before ms ≡ suc (before ns)
+before_more l ns ms h e = ap before e ∙ ap (λ t. cond t 0 (suc (before ns))) h
+
+body_more : (l : List ℕ) (ns ms : List (List ℕ)) → is_head l ≡ false → ms ≡ l ∷ ns → body ms ≡ l ∷ body ns
+body_more l ns ms h e = ap (λ k. take k ms) (before_more l ns ms h e) ∙ ap (take (suc (before ns))) e
+
+module _ (s : Spelling) (items : ℕ) (p : Place) (ls : List (List ℕ)) (rows : List Row) (q : Place) (ms ns : List (List ℕ)) (now : List Row) (l : List ℕ)
+    (g : Loads s items p ls rows q ms now) (h : is_head l ≡ false) (e : ms ≡ l ∷ ns) where
+  pub one-entered : (new : List Row) (q' : Place) → Ok (tt {0}) ≡ answered (line_fault s items now l) (tt {0}) → new ≡ now ++ (row_in s l ∷ []) → q' ≡ onward q → Loads s items p ls rows q' ns new
+  one-entered new q' good add on = record {
+    fault = ap (λ x. body_fault s items x new (body ns)) on ∙ ap (λ x. body_fault s items (onward q) x (body ns)) add
+        ∙ sym (ap (λ o. elim o [ Some f ↦ Some (record { place = onward q; fault = f }) | None ↦ body_fault s items (onward q) (now ++ (row_in s l ∷ [])) (body ns) ]) (fit (line_fault s items now l) good))
+        ∙ sym (ap (body_fault s items q now) (body_more l ns ms h e)) ∙ g.fault;
+    all = ap (λ r. r ++ rows_in s (body ns)) add ∙ append_assoc now (row_in s l ∷ []) (rows_in s (body ns))
+        ∙ ap (λ b. now ++ rows_in s b) (sym (body_more l ns ms h e)) ∙ g.all;
+    rest = sym (ap (λ k. drop k ms) (before_more l ns ms h e) ∙ ap (drop (suc (before ns))) e) ∙ g.rest;
+    line = omega (arith, ap (λ x. x.line) on, before_more l ns ms h e, g.line);
+    sheet = ap (λ x. x.sheet) on ∙ g.sheet;
+  }
+
+  pub one-refused : (f : LineFault) → Err f ≡ answered (line_fault s items now l) (tt {0}) → body_fault s items p rows (body ls) ≡ Some (record { place = onward q; fault = f })
+  one-refused f bad =
+      sym g.fault ∙ ap (body_fault s items q now) (body_more l ns ms h e)
+      ∙ ap (λ o. elim o [ Some f ↦ Some (record { place = onward q; fault = f }) | None ↦ body_fault s items (onward q) (now ++ (row_in s l ∷ [])) (body ns) ]) (unfit (line_fault s items now l) f bad)
+
+-- no statement is left
+module _ (s : Spelling) (items : ℕ) (p : Place) (ls : List (List ℕ)) (rows : List Row) (q : Place) (ms : List (List ℕ)) (now : List Row)
+    (g : Loads s items p ls rows q ms now) (e : before ms ≡ 0) where
+  none_left : body ms ≡ []
+  none_left = ap (λ k. take k ms) e
+
+  pub body-fit : Ok (tt {0}) ≡ answered (body_fault s items p rows (body ls)) (tt {0})
+  body-fit = ap (λ b. answered (body_fault s items q now b) (tt {0})) (sym none_left) ∙ ap (λ o. answered o (tt {0})) g.fault
+
+  pub body-rows : now ≡ rows ++ rows_in s (body ls)
+  body-rows = sym (append-nil now) ∙ ap (λ b. now ++ rows_in s b) (sym none_left) ∙ g.all
+
+  pub body-rest : ms ≡ drop (before ls) ls
+  body-rest = ap (λ k. drop k ms) (sym e) ∙ g.rest
+
+pub placed-ok : {T : Type 0} (p : Place) (x : T) (r : Result T LineFault) → Ok x ≡ placed_at p r → r ≡ Ok x
+placed-ok p x (Ok y) e = cc
+placed-ok p x (Err g) e = cc
+
+pub placed-err : {T : Type 0} (p : Place) (f : At Place LineFault) (r : Result T LineFault) → Err f ≡ placed_at p r → (r ≡ Err f.fault) × (f.place ≡ p)
+placed-err p f (Ok y) e = let z : ◌≡◌ {A = ℕ} 0 1 = cc in absurd (omega arith)
+placed-err p f (Err g) e = let s : f ≡ record { place = p; fault = g } = cc in (sym (ap (λ x. Err x.fault) s), ap (λ x. x.place) s)

@@ -1,0 +1,114 @@
+-- One line on in the search for a head.
+use Rattle.std.proofs.Common.{◌≡◌, ℕ, suc, ◌+◌, true, false, cond, ◌&&◌, eqb, leb, List, [], ◌∷◌, length, get_or, drop, Some, None, Ok, Err, Option, Result, sym, refl, ap, ◌∙◌, subst, arith}
+use Rattle.std.proofs.lemmas.Bool.Decides.{nat_tests}
+use Rattle.files.specs.declared.fault.Place.{Place}
+use Rattle.files.specs.declared.fault.SheetFault.{SheetFault}
+use Rattle.files.specs.declared.head.Head.{Head}
+use Rattle.files.specs.Heads.{is_head, head_in}
+use Rattle.files.specs.Faults.{placed_at}
+use Rattle.files.specs.declared.fault.At.{At}
+use Rattle.files.specs.declared.fault.LineFault.{LineFault}
+use Rattle.files.specs.Sheets.{before, head_place, located, stray_fault, next_head, class_of, state_of}
+use Rattle.files.specs.declared.class.Class.TheVariants.{HeadLine, StatementLine}
+use Rattle.files.specs.declared.class.State.TheVariants.{NoSheet, InSheet}
+use Rattle.std.proofs.lemmas.Bool.{cond-false, and_left, ne_eqb}
+
+-- from q, with_words ms still to come, the answer is that from p, with_words ls to come
+pub record Same (p : Place) (ls : List (List ℕ)) (q : Place) (ms : List (List ℕ)) : Type 0 where
+  pub answer : next_head q ms ≡ next_head p ls
+  pub rest : drop (before ms + 1) ms ≡ drop (before ls + 1) ls
+  pub head : q.line + before ms ≡ p.line + before ls
+  pub end : q.line + length ms ≡ p.line + length ls
+  pub sheet : q.sheet ≡ p.sheet
+
+pub at-end : (p : Place) → next_head p [] ≡ Ok None
+at-end p = grind (arith, nat_tests)
+
+pub at_head : (p : Place) (l : List ℕ) (ls : List (List ℕ)) → is_head l ≡ true → next_head p (l ∷ ls) ≡ located (head_place p 0) (head_in l)
+at_head p l ls h = grind (arith, nat_tests)
+
+pub at-stray : (p : Place) (l : List ℕ) (ls : List (List ℕ)) → is_head l ≡ false → p.sheet ≡ 0 → next_head p (l ∷ ls) ≡ Err (record { place = record { sheet = 0; line = p.line + 1 }; fault = stray_fault l })
+at-stray p l ls h z = grind (arith, nat_tests)
+
+-- the answer where the head is known to stand k lines on
+abbrev at : Place → List (List ℕ) → ℕ → Result (Option Head) SheetFault
+at p ls k =
+    cond (eqb p.sheet 0 && leb 1 k) (Err (record { place = record { sheet = 0; line = p.line + 1 }; fault = stray_fault (get_or ls 0 []) }))
+    (cond (leb (length ls) k) (Ok None) (located (head_place p k) (head_in (get_or ls k []))))
+
+abbrev next : Place → Place
+next p = record { sheet = p.sheet; line = p.line + 1 }
+
+at_next : (p : Place) (l : List ℕ) (ls : List (List ℕ)) (k : ℕ) → (p.sheet ≡ 0 → ⊥) → at (next p) ls k ≡ at p (l ∷ ls) (suc k)
+at_next p l ls k z =
+    let t : leb (length ls) k ≡ leb (suc (length ls)) (suc k) = grind (arith, nat_tests) in
+    let e : p.line + 1 + k + 1 ≡ p.line + suc k + 1 = omega arith in
+    cond-false _ _ _ (and_left (eqb p.sheet 0) (leb 1 k) (ne_eqb _ _ z))
+    ∙ ap (λ b. cond b (Ok None) (located (head_place (next p) k) (head_in (get_or ls k [])))) t
+    ∙ ap (λ n. cond (leb (suc (length ls)) (suc k)) (Ok None) (located (record { sheet = p.sheet + 1; line = n }) (head_in (get_or ls k [])))) e
+    ∙ sym (cond-false _ _ _ (and_left (eqb p.sheet 0) (leb 1 (suc k)) (ne_eqb _ _ z)))
+
+pub onward : (p : Place) (l : List ℕ) (ls : List (List ℕ)) → is_head l ≡ false → (p.sheet ≡ 0 → ⊥) → Same p (l ∷ ls) (next p) ls
+onward p l ls h z =
+    let b : before (l ∷ ls) ≡ suc (before ls) = ap (λ t. cond t 0 (suc (before ls))) h in
+    let d : before (l ∷ ls) + 1 ≡ suc (before ls + 1) = omega (arith, b) in
+    record {
+      answer = at_next p l ls (before ls) z ∙ ap (at p (l ∷ ls)) (sym b);
+      rest = sym (ap (λ k. drop k (l ∷ ls)) d);
+      head = omega (arith, b);
+      end = omega arith;
+      sheet = refl;
+    }
+
+-- one line is passed
+pub passed : (p q : Place) (ls ms ns : List (List ℕ)) (l : List ℕ) → Same p ls q ms → ms ≡ l ∷ ns → is_head l ≡ false → (q.sheet ≡ 0 → ⊥) → Same p ls (next q) ns
+passed p q ls ms ns l s e h z =
+    let o = subst (λ xs. Same q xs (next q) ns) (sym e) (onward q l ns h z) in
+    record {
+      answer = o.answer ∙ s.answer;
+      rest = o.rest ∙ s.rest;
+      head = o.head ∙ s.head;
+      end = o.end ∙ s.end;
+      sheet = o.sheet ∙ s.sheet;
+    }
+
+-- a head is come to
+module _ (p q : Place) (ls ms ns : List (List ℕ)) (l : List ℕ) (s : Same p ls q ms) (e : ms ≡ l ∷ ns) (h : is_head l ≡ true) where
+  pub head-answer : located (record { sheet = q.sheet + 1; line = q.line + 1 }) (head_in l) ≡ next_head p ls
+  head-answer =
+      let z : q.line + 1 ≡ q.line + 0 + 1 = omega arith in
+      ap (λ n. located (record { sheet = q.sheet + 1; line = n }) (head_in l)) z
+      ∙ sym (at_head q l ns h) ∙ ap (next_head q) (sym e) ∙ s.answer
+
+  none_before : before ms ≡ 0
+  none_before = ap before e ∙ ap (λ t. cond t 0 (suc (before ns))) h
+
+  pub head-place : record { sheet = q.sheet + 1; line = q.line + 1 } ≡ head_place p (before ls)
+  head-place =
+      let n : q.line + 1 ≡ p.line + before ls + 1 = omega (arith, none_before, s.head) in
+      ap (λ x. record { sheet = x + 1; line = q.line + 1 }) s.sheet ∙ ap (λ x. record { sheet = p.sheet + 1; line = x }) n
+
+  pub head-rest : ns ≡ drop (before ls + 1) ls
+  head-rest = ap (drop 1) (sym e) ∙ ap (λ k. drop (k + 1) ms) (sym none_before) ∙ s.rest
+
+pub is-head : (l : List ℕ) → class_of l ≡ HeadLine → is_head l ≡ true
+is-head l e = grind (arith, nat_tests)
+
+pub no-head : (l : List ℕ) → class_of l ≡ StatementLine → is_head l ≡ false
+no-head l e = grind (arith, nat_tests)
+
+-- a head that was read, and one that is unfit
+pub located-ok : (p : Place) (h : Head) (r : Result Head LineFault) → Ok h ≡ placed_at p r → Ok (Some h) ≡ located p r
+located-ok p h (Ok g) e = cc
+located-ok p h (Err f) e = cc
+
+pub located-err : (p : Place) (f : At Place LineFault) (r : Result Head LineFault) → Err f ≡ placed_at p r → Err (record { place = f.place; fault = f.fault }) ≡ located p r
+located-err p f (Ok g) e = cc
+located-err p f (Err g) e = cc
+
+-- a sheet has begun
+pub some-sheet : (p : Place) → state_of p ≡ InSheet → p.sheet ≡ 0 → ⊥
+some-sheet p e z = grind (arith, nat_tests)
+
+pub no-sheet : (p : Place) → state_of p ≡ NoSheet → p.sheet ≡ 0
+no-sheet p e = grind (arith, nat_tests)

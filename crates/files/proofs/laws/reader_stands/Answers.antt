@@ -1,0 +1,6 @@
+use Rattle.std.proofs.Common.{refl}
+use Rattle.files.proofs.Standing.{head-stands, load-stands}
+use Rattle.files.proofs.laws.reader_stands.Goals as goal
+
+pub returns : goal.returns
+returns c = record { start = λ file. (refl, refl); head = head-stands; load = load-stands }

@@ -1,0 +1,12 @@
+-- The definitions that the contracts cite, in the order of reading.
+pub mod Parts
+pub mod Numbers
+pub mod Words
+pub mod Faults
+pub mod Heads
+pub mod Statements
+pub mod Drafts
+pub mod Sheets
+pub mod Loads
+pub mod Views
+pub mod Standing

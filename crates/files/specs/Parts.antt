@@ -1,0 +1,48 @@
+-- How a text is parted into lines, fields and words, and what the cursors over them give.
+use Rattle.std.specs.Prelude.{◌≡◌, ℕ, cond, List, [], ◌∷◌, ◌++◌, Some, None, Option, ◌==◌, ◌≢◌}
+use Rattle.std.specs.Borrow.{Bor}
+use Rattle.files.specs.declared.parts.Parts.{Parts}
+use Rattle.files.specs.declared.parts.Lines.{Lines}
+
+-- one byte more in front of the first part
+abbrev pub on_first : ℕ → List (List ℕ) → List (List ℕ)
+on_first b [] = (b ∷ []) ∷ []
+on_first b (p ∷ ps) = (b ∷ p) ∷ ps
+
+-- the parts of a text between the bytes c: always one more than there are such bytes, and any of them may be empty
+abbrev pub parted : ℕ → List ℕ → List (List ℕ)
+parted c [] = [] ∷ []
+parted c (b ∷ bs) = cond (b == c) ([] ∷ parted c bs) (on_first b (parted c bs))
+
+-- the lines of a file, each up to a line feed, which the last may lack; after a final line feed there is no further line
+abbrev pub lines : List ℕ → List (List ℕ)
+lines [] = []
+lines (b ∷ bs) = cond (b == 10) ([] ∷ lines bs) (on_first b (lines bs))
+
+-- the fields of a line, parted by single spaces; an empty line has one field, which is empty
+abbrev pub fields : List ℕ → List (List ℕ)
+fields line = parted 32 line
+
+-- the byte c stands nowhere in a text
+abbrev pub Lacks : ℕ → List ℕ → Type 0
+Lacks c [] = Unit {0}
+Lacks c (b ∷ bs) = (b ≢ c) × Lacks c bs
+
+-- a text at its first c: what stands before it, and what after it; or that there is none
+abbrev pub Split : ℕ → List ℕ → List ℕ → Option (Bor (List ℕ)) → Type 0
+Split c text front (Some rest) = Lacks c front × (text ≡ front ++ (c ∷ rest.now))
+Split c text front None = Lacks c text × (text ≡ front)
+
+-- the parts that a cursor has still to give
+abbrev pub left : Parts → List (List ℕ)
+left p = elim p.rest [ Some r ↦ parted p.by r.now | None ↦ [] ]
+
+-- a cursor gives the first of the parts that were left, or there was none
+abbrev pub Gives : Parts → Option (Bor (List ℕ)) → Parts → Type 0
+Gives old (Some p) new = left old ≡ p.now ∷ left new
+Gives old None new = (left old ≡ []) × (left new ≡ [])
+
+-- the same of lines
+abbrev pub GivesLine : Lines → Option (Bor (List ℕ)) → Lines → Type 0
+GivesLine old (Some l) new = lines old.rest.now ≡ l.now ∷ lines new.rest.now
+GivesLine old None new = (lines old.rest.now ≡ []) × (new ≡ old)

@@ -1,0 +1,55 @@
+-- A statement's line: first item, second item, words, weight, person, and '!' if it is sworn.
+use Rattle.std.specs.Prelude.{ℕ, Bool, true, false, cond, ◌||◌, List, [], ◌∷◌, length, Some, None, Ok, codes, Option, Result, ◌==◌, nat_le}
+use Rattle.std.specs.Borrow.{Bor}
+use Rattle.kinds.specs.Words.{is}
+use Rattle.statements.specs.declared.entry.Entry.{Entry}
+use Rattle.files.specs.declared.fault.FieldFault.{FieldFault}
+use Rattle.files.specs.declared.fault.FieldFault.TheVariants.{NotNumber, NotWord, NotMark}
+use Rattle.files.specs.declared.fault.LineFault.{LineFault}
+use Rattle.files.specs.declared.fault.LineFault.TheVariants.{TooLong, FieldCount, Field}
+use Rattle.files.specs.Faults.{first, unless, given, answered}
+use Rattle.files.specs.Parts.{fields}
+use Rattle.files.specs.Numbers.{is_number, value_of}
+use Rattle.files.specs.Words.{are_words, set_of}
+use Rattle.files.specs.Heads.{line_fits, field}
+
+-- a field is '!'
+abbrev pub is_mark : List ℕ → Bool
+is_mark f = is f (codes "!")
+
+-- what a sixth field says: there is none, or it is the mark of a sworn statement
+abbrev pub mark_in : Option (Bor (List ℕ)) → Result Bool FieldFault
+mark_in None = Ok false
+mark_in (Some f) = given (is_mark f.now) true NotMark
+
+-- a line has a field k
+abbrev pub has_field : ℕ → List ℕ → Bool
+has_field k line = nat_le k (length (fields line))
+
+-- what is wrong with a statement's line by itself, in the order of the checks
+abbrev pub statement_fault : (List ℕ → Option ℕ) → List ℕ → Option LineFault
+statement_fault code line = first
+    (unless (line_fits line) TooLong
+    ∷ unless (length (fields line) == 5 || length (fields line) == 6) FieldCount
+    ∷ unless (is_number (field 1 line)) (Field 1 NotNumber)
+    ∷ unless (is_number (field 2 line)) (Field 2 NotNumber)
+    ∷ unless (are_words code (field 3 line)) (Field 3 NotWord)
+    ∷ unless (is_number (field 4 line)) (Field 4 NotNumber)
+    ∷ unless (is_number (field 5 line)) (Field 5 NotNumber)
+    ∷ unless (cond (has_field 6 line) (is_mark (field 6 line)) true) (Field 6 NotMark)
+    ∷ [])
+
+-- what the fields of a statement say
+abbrev pub entry_of : (List ℕ → Option ℕ) → List ℕ → Entry
+entry_of code line = record {
+  first = value_of (field 1 line);
+  second = value_of (field 2 line);
+  set = set_of code (field 3 line);
+  weight = value_of (field 4 line);
+  person = value_of (field 5 line);
+  sworn = has_field 6 line;
+}
+
+-- the entry that a line is, or its first fault
+abbrev pub entry_in : (List ℕ → Option ℕ) → List ℕ → Result Entry LineFault
+entry_in code line = answered (statement_fault code line) (entry_of code line)

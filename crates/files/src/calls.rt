@@ -1,0 +1,115 @@
+// The calls of a reader.
+ghost use Rattle.std.specs.Prelude.{◌≡◌, ◌≤◌, true, [], length};
+ghost use Rattle.rules.specs.Properly.{between};
+ghost use Rattle.files.specs.Faults.{answered};
+ghost use Rattle.files.specs.Parts.{lines};
+ghost use Rattle.files.specs.Sheets.{nowhere as nowhere_with};
+ghost use Rattle.files.specs.Views.{view_of, start_of, lines_of, head_answer, head_after, load_fault, load_after, contents, load_contents};
+ghost use Rattle.files.specs.Words.{spelled};
+
+use crate::fault::{FieldFault, LineFault, Place, SheetFault};
+use crate::head::Head;
+use crate::letter::TallyLetter;
+use crate::load::load_body;
+use crate::parts::Lines;
+use crate::reader::{Reader, Spot};
+use kinds::kind::Kind;
+use kinds::notation::Notation;
+use sheets::held::Draft;
+use tallies::tally::Tally;
+
+/// The most bytes of a file.
+pub const LARGEST: usize = 65536;
+
+// A fault that is at no line.
+fn nowhere(fault: LineFault) -> SheetFault
+    ensures { result ≡ nowhere_with fault }
+{
+    let place = Place { sheet: 0, line: 0 };
+    SheetFault { place, fault }
+}
+
+// What is read of a file: nothing of one that is too long.
+fn readable(file: &[u8]) -> &[u8]
+    ensures short { length result.now ≤ 65536 }
+    ensures all { lines result.now ≡ lines_of file.now }
+{
+    if file.len() > LARGEST { &[] } else { file }
+}
+
+impl<'a> Reader<'a> {
+    /// A reader before the first line of a file. One that is too long is refused by each call.
+    pub fn new(file: &'a [u8]) -> Reader<'a>
+        ensures { view_of result ≡ start_of file.now }
+    {
+        Reader {
+            too_long: file.len() > LARGEST,
+            spot: Spot {
+                ahead: Lines::new(readable(file)),
+                place: Place { sheet: 0, line: 0 },
+            },
+            waiting: None,
+        }
+    }
+
+    /// The next head, which then waits, or that there is none. Statements that have not been loaded are passed over, unchecked.
+    pub fn next_head(&mut self) -> Result<Option<Head>, SheetFault>
+        ensures answer { result ≡ head_answer (view_of self.old) }
+        ensures after { view_of self.new ≡ head_after (view_of self.old) }
+    {
+        if self.too_long {
+            return Err(nowhere(LineFault::TooLong));
+        }
+        let mut spot = self.spot;
+        let head = spot.find_head()?;
+        self.spot = spot;
+        self.waiting = head;
+        Ok(head)
+    }
+
+    /// Loads the statements of the head that waits into a draft, which takes the head's size first. A refused load leaves the head
+    /// waiting, and the draft with an empty list; where no head of the draft's kind and tally waits, the draft is as it was.
+    pub fn load<K: Kind + Notation, T: Tally + TallyLetter>(
+        &mut self,
+        draft: &mut Draft<K, T>,
+    ) -> Result<(), SheetFault>
+        ensures answer { result ≡ answered (load_fault (spelled K.Kind.meaning K.Notation.words K.Notation.initial T.TallyLetter.initial) (view_of self.old)) tt }
+        ensures after { view_of self.new ≡ load_after (spelled K.Kind.meaning K.Notation.words K.Notation.initial T.TallyLetter.initial) (view_of self.old) }
+        ensures draft { contents draft.new.items draft.new.rows.items ≡ load_contents (spelled K.Kind.meaning K.Notation.words K.Notation.initial T.TallyLetter.initial) (view_of self.old) (contents draft.old.items draft.old.rows.items) }
+    {
+        if self.too_long {
+            return Err(nowhere(LineFault::TooLong));
+        }
+        let Some(head) = self.waiting else {
+            return Err(nowhere(LineFault::NoHead));
+        };
+        if head.letter != K::letter() || head.tally != T::letter() {
+            return Err(nowhere(LineFault::Field(0, FieldFault::Unknown)));
+        }
+        resize(draft, head.size);
+        let mut spot = self.spot;
+        match load_body(&mut spot, draft) {
+            Ok(()) => {
+                self.spot = spot;
+                self.waiting = None;
+                Ok(())
+            }
+            Err(fault) => {
+                resize(draft, head.size);
+                Err(fault)
+            }
+        }
+    }
+}
+
+// Sets a size that the draft accepts, and empties its list.
+fn resize<K: Kind, T: Tally>(draft: &mut Draft<K, T>, size: u32)
+    requires { between 1 12 size ≡ true }
+    ensures size { draft.new.items ≡ size }
+    ensures rows { draft.new.rows.items ≡ [] }
+{
+    match draft.size(size) {
+        Ok(()) => {}
+        Err(_) => unreachable(),
+    }
+}

@@ -1,0 +1,90 @@
+// Parts of a text between single bytes.
+ghost use Rattle.std.specs.Prelude.{◌≡◌, ℕ, ◌<◌, ◌≤◌, length, ◌≢◌, slice_index};
+ghost use Rattle.files.specs.Parts.{parted, lines, left, Split, Gives, GivesLine};
+
+/// Gives the parts of a text between the bytes `by`, one after another.
+#[derive(Drop)]
+pub struct Parts<'a> {
+    by: u8,
+    rest: Option<&'a [u8]>,
+}
+
+/// Gives the lines of a text, one after another.
+#[derive(Clone, Copy)]
+pub struct Lines<'a> {
+    rest: &'a [u8],
+}
+
+// Where `b` first stands, or the length.
+pub fn first_place(text: &[u8], b: u8) -> usize
+    ensures within { result ≤ length text.now }
+    ensures before { (k : ℕ) → k < result → slice_index text.now k ≢ b }
+    ensures found { result < length text.now → slice_index text.now result ≡ b }
+{
+    for (i, x) in text.iter().enumerate() {
+        if *x == b {
+            return i;
+        }
+    }
+    text.len()
+}
+
+// What stands before the first `by`, and what after it.
+pub fn split_once<'a>(text: &'a [u8], by: u8) -> (&'a [u8], Option<&'a [u8]>)
+    ensures { Split by text.now result.0.now result.1 }
+{
+    let n = first_place(text, by);
+    if n < text.len() {
+        (&text[0..n], Some(&text[n + 1..]))
+    } else {
+        (text, None)
+    }
+}
+
+impl<'a> Parts<'a> {
+    pub fn new(text: &'a [u8], by: u8) -> Parts<'a>
+        ensures { left result ≡ parted by text.now }
+    {
+        Parts {
+            by,
+            rest: Some(text),
+        }
+    }
+
+    pub fn next(&mut self) -> Option<&'a [u8]>
+        ensures { Gives self.old result self.new }
+    {
+        let Some(text) = self.rest else {
+            return None;
+        };
+        let (part, rest) = split_once(text, self.by);
+        self.rest = rest;
+        Some(part)
+    }
+}
+
+impl<'a> Lines<'a> {
+    pub fn new(rest: &'a [u8]) -> Lines<'a>
+        ensures { result.rest.now ≡ rest.now }
+    {
+        Lines { rest }
+    }
+
+    pub fn next(&mut self) -> Option<&'a [u8]>
+        ensures { GivesLine self.old result self.new }
+    {
+        if self.rest.is_empty() {
+            return None;
+        }
+        match split_once(self.rest, b'\n') {
+            (line, Some(rest)) => {
+                self.rest = rest;
+                Some(line)
+            }
+            (line, None) => {
+                self.rest = &[];
+                Some(line)
+            }
+        }
+    }
+}

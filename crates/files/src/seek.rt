@@ -1,0 +1,85 @@
+// How a reader goes on in its file: to the next statement, or to the next head.
+ghost use Rattle.std.specs.Prelude.{◌≡◌, true, IfSome, IfOk};
+ghost use Rattle.rules.specs.Properly.{between};
+ghost use Rattle.files.specs.Sheets.{next_head, Moved, stray_fault, GivesStatement, state_of};
+ghost use Rattle.files.specs.Views.{ahead_of};
+
+use crate::class::{Class, State, class_of};
+use crate::fault::{At, LineFault, Place, SheetFault, placed};
+use crate::head::{Head, LONGEST, parse_head};
+use crate::reader::Spot;
+
+// The fault of a statement's line before the first head.
+fn stray(line: &[u8]) -> LineFault
+    ensures { result ≡ stray_fault line.now }
+{
+    if line.len() > LONGEST {
+        LineFault::TooLong
+    } else {
+        LineFault::NoHead
+    }
+}
+
+impl<'a> Spot<'a> {
+    /// The place of the last line read.
+    pub fn place(&self) -> Place
+        ensures { result ≡ self.now.place }
+    {
+        self.place
+    }
+
+    // Whether a head has come.
+    fn state(&self) -> State
+        ensures { result ≡ state_of self.now.place }
+    {
+        if self.place.sheet == 0 {
+            State::NoSheet
+        } else {
+            State::InSheet
+        }
+    }
+
+    /// The next line, which is then read, if it is a statement's.
+    pub fn next_statement(&mut self) -> Option<&'a [u8]>
+        ensures { GivesStatement self.old.place (ahead_of self.old) result self.new.place (ahead_of self.new) }
+    {
+        let mut ahead = self.ahead;
+        let Some(line) = ahead.next() else {
+            return None;
+        };
+        match class_of(line) {
+            Class::HeadLine => None,
+            Class::StatementLine => {
+                self.ahead = ahead;
+                self.place.line += 1;
+                Some(line)
+            }
+        }
+    }
+
+    /// Passes over statements, once a head has come, to the next head.
+    pub fn find_head(&mut self) -> Result<Option<Head>, SheetFault>
+        ensures answer { result ≡ next_head self.old.place (ahead_of self.old) }
+        ensures sized { IfOk result (λ o. IfSome o (λ h. between 1 12 h.size ≡ true)) }
+        ensures moved { Moved self.old.place (ahead_of self.old) result self.new.place (ahead_of self.new) }
+    {
+        while let Some(line) = self.ahead.next() {
+            self.place.line += 1;
+            match (self.state(), class_of(line)) {
+                (_, Class::HeadLine) => {
+                    self.place.sheet += 1;
+                    let head = placed(self.place, parse_head(line))?;
+                    return Ok(Some(head));
+                }
+                (State::NoSheet, Class::StatementLine) => {
+                    return Err(SheetFault {
+                        place: self.place,
+                        fault: stray(line),
+                    });
+                }
+                (State::InSheet, Class::StatementLine) => {}
+            }
+        }
+        Ok(None)
+    }
+}

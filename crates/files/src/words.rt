@@ -1,0 +1,40 @@
+// The words of a field, and the set that they name.
+ghost use Rattle.std.specs.Prelude.{◌≡◌, ◌<◌, IfSome};
+ghost use Rattle.files.specs.Words.{code_of as code_in, set_in};
+
+use crate::fault::FieldFault;
+use crate::parts::Parts;
+use kinds::kind::Kind;
+use kinds::notation::Notation;
+
+// The code that a text stands for, if it is a word of the kind. The empty text is none.
+fn code_of<K: Kind + Notation>(word: &[u8]) -> Option<u8>
+    ensures code { result ≡ code_in K.Kind.meaning.codes K.Notation.words word.now }
+    ensures small { IfSome result (λ c. c < 64) }
+{
+    if word.is_empty() {
+        return None;
+    }
+    match K::code(word) {
+        Some(code) if code < K::count() => Some(code),
+        _ => None,
+    }
+}
+
+/// Reads a field of words parted by `/`: the set of their codes, as bits. An empty field is the empty set.
+pub fn set_of<K: Kind + Notation>(field: &[u8]) -> Result<u64, FieldFault>
+    ensures { result ≡ set_in (code_in K.Kind.meaning.codes K.Notation.words) field.now }
+{
+    let mut set = 0;
+    if field.is_empty() {
+        return Ok(set);
+    }
+    let mut words = Parts::new(field, b'/');
+    while let Some(word) = words.next() {
+        match code_of::<K>(word) {
+            Some(code) => set |= 1 << code,
+            None => return Err(FieldFault::NotWord),
+        }
+    }
+    Ok(set)
+}
