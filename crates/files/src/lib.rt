@@ -1,7 +1,7 @@
 // Files of sheets: a reader over the bytes of a whole file, which answers its heads in turn and loads their statements into drafts.
 #![tactic(auto)]
 
-mod calls;
+pub mod calls;
 pub mod class;
 pub mod fault;
 pub mod head;
