@@ -4,3 +4,4 @@ pub mod Sets
 pub mod Seeking
 pub mod Standing
 pub mod Loading
+pub mod Turns

@@ -10,3 +10,4 @@ pub mod Sheets
 pub mod Loads
 pub mod Views
 pub mod Standing
+pub mod Files

@@ -95,7 +95,7 @@ impl<'a> Reader<'a> {
                 Ok(())
             }
             Err(fault) => {
-                resize(draft, head.size);
+                clear(draft);
                 Err(fault)
             }
         }
@@ -112,4 +112,13 @@ fn resize<K: Kind, T: Tally>(draft: &mut Draft<K, T>, size: u32)
         Ok(()) => {}
         Err(_) => unreachable(),
     }
+}
+
+// Empties the list of a draft, which keeps its size.
+fn clear<K: Kind, T: Tally>(draft: &mut Draft<K, T>)
+    ensures size { draft.new.items ≡ draft.old.items }
+    ensures rows { draft.new.rows.items ≡ [] }
+{
+    let size = u32::from(draft.items());
+    resize(draft, size);
 }
