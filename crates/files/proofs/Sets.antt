@@ -1,7 +1,11 @@
--- A set of words, by whether its field is empty.
-use Rattle.std.proofs.Common.{◌≡◌, ℕ, List, [], ◌∷◌, length, Ok, Option, refl, arith}
+-- Sets of words: by whether the field is empty, and that they have only codes of the kind.
+use Rattle.std.proofs.Common.{◌≡◌, ℕ, ◌^◌, ◌<◌, Bool, true, false, cond, eqb, ltb, List, [], ◌∷◌, length, Ok, Some, None, Option, sym, refl, subst, ⊎_elim, arith, ltb-true}
+use lib.Bits.{bit_or, or_lt}
+use Rattle.std.proofs.lemmas.Bool.{cases_Bool}
+use Rattle.std.proofs.lemmas.Nat.{pow_pos, pow_below}
+use Rattle.kinds.specs.Words.{read}
 use Rattle.files.specs.Parts.{parted}
-use Rattle.files.specs.Words.{all_words, with_words, are_words, set_of, set_in}
+use Rattle.files.specs.Words.{below, code_of, words, all_words, with_words, are_words, set_of, set_in, SetsFit}
 use Rattle.files.specs.Faults.{given}
 use Rattle.files.specs.declared.fault.FieldFault.TheVariants.{NotWord}
 
@@ -15,3 +19,25 @@ pub some_words : (code : List ℕ → Option ℕ) (field : List ℕ) → (length
 unfolding are_words set_of
 some_words code [] e = absurd (e refl)
 some_words code (b ∷ bs) e = refl
+
+-- A set that is read from words has only codes of the kind.
+module _ (codes : ℕ) where
+  with-code : (set : ℕ) (o : Option ℕ) → set < 2 ^ codes → elim (below codes o) [ Some c ↦ bit_or set (2 ^ c) | None ↦ set ] < 2 ^ codes
+  with-code set None h = h
+  with-code set (Some c) h =
+      ⊎_elim
+      (λ y. subst (λ b. elim (cond b (Some c) None) [ Some d ↦ bit_or set (2 ^ d) | None ↦ set ] < 2 ^ codes) (sym y) (or_lt codes set (2 ^ c) h (pow_below c codes (ltb-true c codes y))))
+      (λ n. subst (λ b. elim (cond b (Some c) None) [ Some d ↦ bit_or set (2 ^ d) | None ↦ set ] < 2 ^ codes) (sym n) h)
+      (cases_Bool (ltb c codes))
+
+  with-word : (set : ℕ) (b : Bool) (o : Option ℕ) → set < 2 ^ codes → elim (cond b None (below codes o)) [ Some c ↦ bit_or set (2 ^ c) | None ↦ set ] < 2 ^ codes
+  with-word set true o h = h
+  with-word set false o h = with-code set o h
+
+  with-fits : (names : List (List ℕ)) (set : ℕ) (ws : List (List ℕ)) → set < 2 ^ codes → with_words (code_of codes names) set ws < 2 ^ codes
+  with-fits names set [] h = h
+  with-fits names set (w ∷ ws) h = with-fits names (elim (code_of codes names w) [ Some c ↦ bit_or set (2 ^ c) | None ↦ set ]) ws (with-word set (eqb (length w) 0) (read names w) h)
+
+pub sets-fit : SetsFit
+unfolding set_of
+sets-fit codes names field = with-fits codes names 0 (words field) (pow_pos codes)

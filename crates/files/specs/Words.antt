@@ -1,5 +1,5 @@
 -- The words of a field, and the set that they name.
-use Rattle.std.specs.Prelude.{ℕ, ◌^◌, Bool, true, cond, ◌&&◌, List, [], ◌∷◌, length, is_some, Some, None, Option, Result, ◌==◌, bit_or, nat_lt}
+use Rattle.std.specs.Prelude.{ℕ, ◌^◌, ◌<◌, Bool, true, cond, ◌&&◌, List, [], ◌∷◌, length, is_some, Some, None, Option, Result, ◌==◌, bit_or, nat_lt}
 use Rattle.kinds.specs.Meaning.{Meaning}
 use Rattle.kinds.specs.Words.{read}
 use Rattle.files.specs.declared.fault.FieldFault.{FieldFault}
@@ -52,3 +52,7 @@ set_of code field = with_words code 0 (words field)
 
 abbrev pub set_in : (List ℕ → Option ℕ) → List ℕ → Result ℕ FieldFault
 set_in code field = given (are_words code field) (set_of code field) NotWord
+
+-- A set that is read from words has only codes of the kind.
+abbrev pub SetsFit : Type 0
+SetsFit = (codes : ℕ) (names : List (List ℕ)) (field : List ℕ) → set_of (code_of codes names) field < 2 ^ codes

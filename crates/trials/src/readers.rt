@@ -1,7 +1,6 @@
 // Files: what is read of them, and by which fault and where they are refused.
 use dwellings::Dwellings;
 use files::fault::SheetFault;
-use files::head::Head;
 use files::letter::TallyLetter;
 use files::reader::Reader;
 use kinds::kind::Kind;
@@ -15,11 +14,17 @@ use tallies::by_weight::ByWeight;
 use tallies::sworn_first::SwornFirst;
 use tallies::tally::Tally;
 
-// The number of a fault, and its place: sheet, line and field.
-type Told = (u8, u32, u32, u8);
+// What a call of a reader answers: a fault by its number, sheet, line and field.
+#[derive(Clone, Copy, PartialEq, Eq)]
+enum Answer {
+    Head(u8, u32, u8),
+    NoHead,
+    Loaded,
+    Refused(u8, u32, u32, u8),
+}
 
-fn told(fault: SheetFault) -> Told {
-    (
+fn refused(fault: SheetFault) -> Answer {
+    Answer::Refused(
         fault.number(),
         fault.place.sheet,
         fault.place.line,
@@ -27,35 +32,52 @@ fn told(fault: SheetFault) -> Told {
     )
 }
 
-/// The next head, or the fault.
-fn head(reader: &mut Reader) -> Result<Option<Head>, Told> {
+/// Asks for the next head.
+fn head(reader: &mut Reader) -> Answer {
     match reader.next_head() {
-        Ok(head) => Ok(head),
-        Err(fault) => Err(told(fault)),
+        Ok(Some(head)) => Answer::Head(head.letter, head.size, head.tally),
+        Ok(None) => Answer::NoHead,
+        Err(fault) => refused(fault),
     }
 }
 
-/// How many items and statements a draft has after a load, or the fault.
+/// Loads, and tells how many items and statements the draft has then.
 fn load<K: Kind + Notation, T: Tally + TallyLetter>(
     reader: &mut Reader,
     draft: &mut Draft<K, T>,
-) -> Result<(u8, usize), Told> {
-    match reader.load(draft) {
-        Ok(()) => Ok((draft.items(), draft.entered())),
-        Err(fault) => Err(told(fault)),
-    }
+) -> (Answer, u8, usize) {
+    let answer = match reader.load(draft) {
+        Ok(()) => Answer::Loaded,
+        Err(fault) => refused(fault),
+    };
+    (answer, draft.items(), draft.entered())
 }
 
-/// The first sheet of a file, or the first fault.
+/// Loads the first sheet of a file.
 fn read<K: Kind + Notation, T: Tally + TallyLetter>(
     file: &[u8],
     draft: &mut Draft<K, T>,
-) -> Result<(u8, usize), Told> {
+) -> (Answer, u8, usize) {
     let mut reader = Reader::new(file);
     match head(&mut reader) {
-        Ok(_) => load(&mut reader, draft),
-        Err(fault) => Err(fault),
+        Answer::Head(_, _, _) => load(&mut reader, draft),
+        answer => (answer, 0, 0),
     }
+}
+
+/// What the statement with a number says, or zeros.
+fn look<K: Kind, T: Tally>(draft: &Draft<K, T>, number: u32) -> (u8, u8, u64, u16, u8, bool) {
+    match draft.look(number) {
+        Ok((s, _)) => (s.first, s.second, s.set, s.weight, s.person, s.sworn),
+        Err(_) => (0, 0, 0, 0, 0, false),
+    }
+}
+
+// The number of a fault, and its place.
+type Told = (u8, u32, u32, u8);
+
+fn as_answer(fault: Told) -> Answer {
+    Answer::Refused(fault.0, fault.1, fault.2, fault.3)
 }
 
 // Files that are refused before any head, or at the first.
@@ -94,8 +116,9 @@ const HEADS: [(&str, Told); 28] = [
 fn heads_refused(rt: HostRuntime) -> Result<(), Fail> {
     for (file, fault) in HEADS {
         let mut reader = Reader::new(file.as_bytes());
-        assert!(rt; head(&mut reader) == Err(fault), "{file}");
-        assert!(rt; head(&mut reader) == Err(fault), "{file}, asked again");
+        for _ in 0..2 {
+            assert!(rt; head(&mut reader) == as_answer(fault), "{file}");
+        }
     }
     Ok(())
 }
@@ -142,140 +165,132 @@ fn statements_refused(rt: HostRuntime) -> Result<(), Fail> {
     let mut draft: Draft<Moments, ByWeight> = Draft::new(rt.alloc()).ok().ok_or("no memory")?;
     for (file, fault) in STATEMENTS {
         let mut reader = Reader::new(file.as_bytes());
-        assert!(rt; head(&mut reader).is_ok(), "{file}");
-        assert!(rt; load(&mut reader, &mut draft) == Err(fault), "{file}");
-        assert_eq!(rt; (draft.items(), draft.entered()), (3, 0), "{file}");
-        assert!(rt;
-            load(&mut reader, &mut draft) == Err(fault),
-            "{file}, asked again"
-        );
-        assert!(rt; head(&mut reader) == Ok(None), "{file}, passed over");
+        assert!(rt; head(&mut reader) == Answer::Head(b'M', 3, b'w'), "{file}");
+        for _ in 0..2 {
+            assert!(rt;
+                load(&mut reader, &mut draft) == (as_answer(fault), 3, 0),
+                "{file}"
+            );
+        }
+        assert!(rt; head(&mut reader) == Answer::NoHead, "{file}");
     }
     Ok(())
 }
 
 #[test]
-fn households(rt: HostRuntime) -> Result<(), Fail> {
-    let heap = rt.alloc();
-    let mut moments: Draft<Moments, ByWeight> = Draft::new(heap).ok().ok_or("no memory")?;
-    let mut spells: Draft<Spells, ByWeight> = Draft::new(heap).ok().ok_or("no memory")?;
-    let mut dwellings: Draft<Dwellings, SwornFirst> = Draft::new(heap).ok().ok_or("no memory")?;
-    for (file, held) in [
-        ("M 3 w\n1 2 < 3 1\n2 3 < 2 1\n1 3 > 4 2\n", (3, 3)),
-        ("M 3 w\n1 2 < 3 1\n2 3 < 2 1\n1 3 > 4 2", (3, 3)),
-        ("M 12 w", (12, 0)),
-        ("M 1 w\n", (1, 0)),
-        ("M 3 w\n2 1  1000 20 !\n1 2 =/</>/= 1 1\nX\n\n", (3, 2)),
+fn moments_loaded(rt: HostRuntime) -> Result<(), Fail> {
+    let mut draft: Draft<Moments, ByWeight> = Draft::new(rt.alloc()).ok().ok_or("no memory")?;
+    for (file, items, entered) in [
+        ("M 3 w\n1 2 < 3 1\n2 3 < 2 1\n1 3 > 4 2\n", 3, 3),
+        ("M 3 w\n1 2 < 3 1\n2 3 < 2 1\n1 3 > 4 2", 3, 3),
+        ("M 12 w", 12, 0),
+        ("M 1 w\n", 1, 0),
+        ("M 3 w\n2 1  1000 20 !\n1 2 =/</>/= 1 1\nX\n\n", 3, 2),
     ] {
-        assert!(rt; read(file.as_bytes(), &mut moments) == Ok(held), "{file}");
+        assert!(rt;
+            read(file.as_bytes(), &mut draft) == (Answer::Loaded, items, entered),
+            "{file}"
+        );
     }
-    let file = "S 2 w\n1 2 eq/p/pi/m/mi/o/oi/s/si/d/di/f/fi 1000 20 !\n2 1 p/pi 5 1\n";
-    assert!(rt; read(file.as_bytes(), &mut spells) == Ok((2, 2)));
-    let (first, _) = spells.look(1).ok().ok_or("refused")?;
-    assert_eq!(rt;
-        (
-            first.first,
-            first.second,
-            first.set,
-            first.weight,
-            first.person,
-            first.sworn
-        ),
-        (1, 2, 8191, 1000, 20, true)
-    );
-    let (second, _) = spells.look(2).ok().ok_or("refused")?;
-    assert_eq!(rt;
-        (
-            second.first,
-            second.second,
-            second.set,
-            second.weight,
-            second.person,
-            second.sworn
-        ),
-        (1, 2, 6, 5, 1, false)
-    );
-    let file = "D 4 r\n1 2 n/nw 3 1\n4 3 s 7 2 !\n1 4  1 1\n1 2 e/se/sw/w/ne/eq 1 1\n";
-    assert!(rt; read(file.as_bytes(), &mut dwellings) == Ok((4, 4)));
-    let (turned, _) = dwellings.look(2).ok().ok_or("refused")?;
-    assert_eq!(rt;
-        (turned.first, turned.second, turned.set, turned.sworn),
-        (3, 4, 2, true)
-    );
-    let file = "D 4 r\n1 2 p 3 1\n";
-    assert!(rt; read(file.as_bytes(), &mut dwellings) == Err((15, 1, 2, 3)));
+    assert!(rt; look(&draft, 1) == (1, 2, 0, 1000, 20, true));
+    assert!(rt; look(&draft, 2) == (1, 2, 7, 1, 1, false));
     Ok(())
 }
+
+#[test]
+fn spells_loaded(rt: HostRuntime) -> Result<(), Fail> {
+    let mut draft: Draft<Spells, ByWeight> = Draft::new(rt.alloc()).ok().ok_or("no memory")?;
+    let file = "S 2 w\n1 2 eq/p/pi/m/mi/o/oi/s/si/d/di/f/fi 1000 20 !\n2 1 p/pi 5 1\n";
+    assert!(rt; read(file.as_bytes(), &mut draft) == (Answer::Loaded, 2, 2));
+    assert!(rt; look(&draft, 1) == (1, 2, 8191, 1000, 20, true));
+    assert!(rt; look(&draft, 2) == (1, 2, 6, 5, 1, false));
+    let file = "S 2 w\n1 2 p/ 3 1\n";
+    assert!(rt; read(file.as_bytes(), &mut draft) == (Answer::Refused(15, 1, 2, 3), 2, 0));
+    Ok(())
+}
+
+#[test]
+fn dwellings_loaded(rt: HostRuntime) -> Result<(), Fail> {
+    let mut draft: Draft<Dwellings, SwornFirst> = Draft::new(rt.alloc()).ok().ok_or("no memory")?;
+    let file = "D 4 r\n1 2 n/nw 3 1\n4 3 s 7 2 !\n1 4  1 1\n1 2 e/se/sw/w/ne/eq 1 1\n";
+    assert!(rt; read(file.as_bytes(), &mut draft) == (Answer::Loaded, 4, 4));
+    assert!(rt; look(&draft, 1) == (1, 2, 258, 3, 1, false));
+    assert!(rt; look(&draft, 2) == (3, 4, 2, 7, 2, true));
+    let file = "D 4 r\n1 2 p 3 1\n";
+    assert!(rt; read(file.as_bytes(), &mut draft) == (Answer::Refused(15, 1, 2, 3), 4, 0));
+    Ok(())
+}
+
+// The next head, or a load into a draft of a kind and a tally.
+#[derive(Clone, Copy)]
+enum Call {
+    Head,
+    MomentsByWeight,
+    MomentsSworn,
+    SpellsSworn,
+}
+
+const SEVERAL: &str =
+    "M 3 w\n1 2 < 3 1\nS 4 r\n1 2 p 3 1\nunfit\nM 2 r\n2 1 = 1 1 !\n1 2 = 0 1\nD 0 w\n";
+
+// Calls of a reader of these sheets, and what each answers; after a load, how many items and statements the draft has.
+const CALLS: [(Call, (Answer, u8, usize)); 15] = [
+    // No head waits before one is asked for.
+    (Call::MomentsByWeight, (Answer::Refused(12, 0, 0, 0), 1, 0)),
+    (Call::Head, (Answer::Head(b'M', 3, b'w'), 0, 0)),
+    // The drafts are of another kind or tally.
+    (Call::SpellsSworn, (Answer::Refused(16, 0, 0, 0), 1, 0)),
+    (Call::MomentsSworn, (Answer::Refused(16, 0, 0, 0), 1, 0)),
+    (Call::MomentsByWeight, (Answer::Loaded, 3, 1)),
+    // A sheet is loaded once; that no head waits is told first.
+    (Call::MomentsByWeight, (Answer::Refused(12, 0, 0, 0), 3, 1)),
+    (Call::MomentsSworn, (Answer::Refused(12, 0, 0, 0), 1, 0)),
+    (Call::Head, (Answer::Head(b'S', 4, b'r'), 0, 0)),
+    // An unfit line: the sheet cannot be loaded, and is passed over.
+    (Call::SpellsSworn, (Answer::Refused(13, 2, 5, 0), 4, 0)),
+    (Call::Head, (Answer::Head(b'M', 2, b'r'), 0, 0)),
+    // The fourth head is unfit, and the third still waits.
+    (Call::Head, (Answer::Refused(1, 4, 9, 2), 0, 0)),
+    (Call::MomentsSworn, (Answer::Refused(5, 3, 8, 4), 2, 0)),
+    (Call::Head, (Answer::Refused(1, 4, 9, 2), 0, 0)),
+    (Call::MomentsByWeight, (Answer::Refused(16, 0, 0, 0), 3, 1)),
+    (Call::MomentsSworn, (Answer::Refused(5, 3, 8, 4), 2, 0)),
+];
 
 #[test]
 fn several_sheets(rt: HostRuntime) -> Result<(), Fail> {
     let heap = rt.alloc();
     let mut moments: Draft<Moments, ByWeight> = Draft::new(heap).ok().ok_or("no memory")?;
-    let mut spells: Draft<Spells, SwornFirst> = Draft::new(heap).ok().ok_or("no memory")?;
     let mut sworn: Draft<Moments, SwornFirst> = Draft::new(heap).ok().ok_or("no memory")?;
-    let file = "M 3 w\n1 2 < 3 1\nS 4 r\n1 2 p 3 1\nunfit\nM 2 r\n2 1 = 1 1 !\n1 2 = 0 1\nD 0 w\n";
-    let mut reader = Reader::new(file.as_bytes());
-
-    // No head waits before one is asked for.
-    assert!(rt; load(&mut reader, &mut moments) == Err((12, 0, 0, 0)));
-    assert_eq!(rt; (moments.items(), moments.entered()), (1, 0));
-    let first = Head {
-        letter: b'M',
-        size: 3,
-        tally: b'w',
-    };
-    assert!(rt; head(&mut reader) == Ok(Some(first)));
-
-    // A draft of another kind or tally.
-    assert!(rt; load(&mut reader, &mut spells) == Err((16, 0, 0, 0)));
-    assert!(rt; load(&mut reader, &mut sworn) == Err((16, 0, 0, 0)));
-    assert_eq!(rt; (sworn.items(), sworn.entered()), (1, 0));
-    assert!(rt; load(&mut reader, &mut moments) == Ok((3, 1)));
-
-    // A sheet is loaded once.
-    assert!(rt; load(&mut reader, &mut moments) == Err((12, 0, 0, 0)));
-    assert!(rt; load(&mut reader, &mut sworn) == Err((12, 0, 0, 0)));
-    assert_eq!(rt; (moments.items(), moments.entered()), (3, 1));
-
-    // The second sheet has an unfit line: it cannot be loaded, and is passed over.
-    let second = Head {
-        letter: b'S',
-        size: 4,
-        tally: b'r',
-    };
-    assert!(rt; head(&mut reader) == Ok(Some(second)));
-    assert!(rt; load(&mut reader, &mut spells) == Err((13, 2, 5, 0)));
-    assert_eq!(rt; (spells.items(), spells.entered()), (4, 0));
-    let third = Head {
-        letter: b'M',
-        size: 2,
-        tally: b'r',
-    };
-    assert!(rt; head(&mut reader) == Ok(Some(third)));
-
-    // The fourth head is unfit: the third still waits.
-    assert!(rt; head(&mut reader) == Err((1, 4, 9, 2)));
-    assert!(rt; load(&mut reader, &mut sworn) == Err((5, 3, 8, 4)));
-    assert_eq!(rt; (sworn.items(), sworn.entered()), (2, 0));
-    assert!(rt; head(&mut reader) == Err((1, 4, 9, 2)));
-    assert!(rt; load(&mut reader, &mut moments) == Err((16, 0, 0, 0)));
+    let mut spells: Draft<Spells, SwornFirst> = Draft::new(heap).ok().ok_or("no memory")?;
+    let mut reader = Reader::new(SEVERAL.as_bytes());
+    for (call, wanted) in CALLS {
+        let answer = match call {
+            Call::Head => (head(&mut reader), 0, 0),
+            Call::MomentsByWeight => load(&mut reader, &mut moments),
+            Call::MomentsSworn => load(&mut reader, &mut sworn),
+            Call::SpellsSworn => load(&mut reader, &mut spells),
+        };
+        assert!(rt; answer == wanted);
+    }
     Ok(())
 }
 
 #[test]
 fn no_head(rt: HostRuntime) -> Result<(), Fail> {
     let mut draft: Draft<Moments, ByWeight> = Draft::new(rt.alloc()).ok().ok_or("no memory")?;
-    let mut empty = Reader::new(b"");
-    assert!(rt; head(&mut empty) == Ok(None));
-    assert!(rt; load(&mut empty, &mut draft) == Err((12, 0, 0, 0)));
-
-    // Where there is no further head, the one that waited is passed.
-    let mut reader = Reader::new(b"M 3 w\n1 2 < 3 1\n");
-    assert!(rt; head(&mut reader).is_ok());
-    assert!(rt; head(&mut reader) == Ok(None));
-    assert!(rt; load(&mut reader, &mut draft) == Err((12, 0, 0, 0)));
-    assert!(rt; head(&mut reader) == Ok(None));
-    assert_eq!(rt; (draft.items(), draft.entered()), (1, 0));
+    // A file without lines; then one whose head waited, and is passed where there is no further head.
+    for (file, first) in [
+        ("", Answer::NoHead),
+        ("M 3 w\n1 2 < 3 1\n", Answer::Head(b'M', 3, b'w')),
+    ] {
+        let mut reader = Reader::new(file.as_bytes());
+        assert!(rt; head(&mut reader) == first);
+        for _ in 0..2 {
+            assert!(rt; head(&mut reader) == Answer::NoHead);
+            assert!(rt; load(&mut reader, &mut draft) == (Answer::Refused(12, 0, 0, 0), 1, 0));
+        }
+    }
     Ok(())
 }
 
@@ -296,19 +311,30 @@ const LONG_SET: &str = "</</</</</</</</</</</</</</</</</</</</</</</</</</</</
 fn long_lines(rt: HostRuntime) -> Result<(), Fail> {
     let heap = rt.alloc();
     let mut draft: Draft<Moments, ByWeight> = Draft::new(heap).ok().ok_or("no memory")?;
-    assert_eq!(rt; LONG_SET.len(), 67);
-    for (first, last, length, read_as) in [
-        ("1 2 ", " 1000 2 !\n", 80, Ok((3, 1))),
-        ("1 2 ", " 1000 20 !\n", 81, Err((17, 1, 2, 0))),
-        ("1 2 ", " 1000 20 ! ! ! !\n", 87, Err((17, 1, 2, 0))),
+    for (last, length, answer) in [
+        (" 1000 2 !\n", 80, (Answer::Loaded, 3, 1)),
+        (" 1000 20 !\n", 81, (Answer::Refused(17, 1, 2, 0), 3, 0)),
+        (" 1 1 ! ! ! !\n", 83, (Answer::Refused(17, 1, 2, 0), 3, 0)),
     ] {
-        let mut file = repeated(heap, "M 3 w\n", first, 1)?;
-        file.extend_from_slice(LONG_SET.as_bytes())?;
+        let mut file = repeated(heap, "M 3 w\n1 2 ", LONG_SET, 1)?;
         file.extend_from_slice(last.as_bytes())?;
         assert_eq!(rt; file.len(), 7 + length);
-        assert!(rt; read(file.as_slice(), &mut draft) == read_as, "at {length}");
+        assert!(rt; read(file.as_slice(), &mut draft) == answer, "at {length}");
     }
-    for (first, times, fault) in [
+    Ok(())
+}
+
+/// What is answered to whoever asks twice for a head.
+fn second_head(file: &[u8]) -> Answer {
+    let mut reader = Reader::new(file);
+    let _ = head(&mut reader);
+    head(&mut reader)
+}
+
+#[test]
+fn long_heads(rt: HostRuntime) -> Result<(), Fail> {
+    let heap = rt.alloc();
+    for (first, more, fault) in [
         ("M", 79, (13, 1, 1, 0)),
         ("M", 80, (17, 1, 1, 0)),
         ("m", 79, (12, 0, 1, 0)),
@@ -316,13 +342,8 @@ fn long_lines(rt: HostRuntime) -> Result<(), Fail> {
         ("M 3 w\n1 2 < 3 1\nZ", 79, (13, 2, 3, 0)),
         ("M 3 w\n1 2 < 3 1\nZ", 80, (17, 2, 3, 0)),
     ] {
-        let file = repeated(heap, first, "x", times)?;
-        let mut reader = Reader::new(file.as_slice());
-        let answer = match head(&mut reader) {
-            Ok(_) => head(&mut reader),
-            Err(fault) => Err(fault),
-        };
-        assert!(rt; answer == Err(fault), "{first}");
+        let file = repeated(heap, first, "x", more)?;
+        assert!(rt; second_head(file.as_slice()) == as_answer(fault), "{first}");
     }
     Ok(())
 }
@@ -331,11 +352,13 @@ fn long_lines(rt: HostRuntime) -> Result<(), Fail> {
 fn long_sheets(rt: HostRuntime) -> Result<(), Fail> {
     let heap = rt.alloc();
     let mut draft: Draft<Moments, ByWeight> = Draft::new(heap).ok().ok_or("no memory")?;
-    let full = repeated(heap, "M 2 w\n", "1 2 < 1 1\n", 256)?;
-    assert!(rt; read(full.as_slice(), &mut draft) == Ok((2, 256)));
-    let over = repeated(heap, "M 2 w\n", "1 2 < 1 1\n", 257)?;
-    assert!(rt; read(over.as_slice(), &mut draft) == Err((7, 1, 258, 0)));
-    assert_eq!(rt; (draft.items(), draft.entered()), (2, 0));
+    for (statements, answer) in [
+        (256, (Answer::Loaded, 2, 256)),
+        (257, (Answer::Refused(7, 1, 258, 0), 2, 0)),
+    ] {
+        let file = repeated(heap, "M 2 w\n", "1 2 < 1 1\n", statements)?;
+        assert!(rt; read(file.as_slice(), &mut draft) == answer, "{statements}");
+    }
     Ok(())
 }
 
@@ -343,18 +366,26 @@ fn long_sheets(rt: HostRuntime) -> Result<(), Fail> {
 fn long_files(rt: HostRuntime) -> Result<(), Fail> {
     let heap = rt.alloc();
     let mut draft: Draft<Moments, ByWeight> = Draft::new(heap).ok().ok_or("no memory")?;
-    let mut file = repeated(heap, "M 12 w\n", "\n", 65_529)?;
-    assert_eq!(rt; file.len(), 65_536);
-    let mut reader = Reader::new(file.as_slice());
-    assert!(rt; head(&mut reader).is_ok());
-    assert!(rt; load(&mut reader, &mut draft) == Err((13, 1, 2, 0)));
-    assert!(rt; head(&mut reader) == Ok(None));
-    file.push(b'M')?;
-    let mut reader = Reader::new(file.as_slice());
-    for _ in 0..2 {
-        assert!(rt; head(&mut reader) == Err((17, 0, 0, 0)));
-        assert!(rt; load(&mut reader, &mut draft) == Err((17, 0, 0, 0)));
+    // 65,536 bytes, and one more.
+    for (more, first, second, loaded) in [
+        (
+            65_529,
+            Answer::Head(b'M', 12, b'w'),
+            Answer::NoHead,
+            (Answer::Refused(13, 1, 2, 0), 12, 0),
+        ),
+        (
+            65_530,
+            Answer::Refused(17, 0, 0, 0),
+            Answer::Refused(17, 0, 0, 0),
+            (Answer::Refused(17, 0, 0, 0), 12, 0),
+        ),
+    ] {
+        let file = repeated(heap, "M 12 w\n", "\n", more)?;
+        let mut reader = Reader::new(file.as_slice());
+        assert!(rt; head(&mut reader) == first);
+        assert!(rt; load(&mut reader, &mut draft) == loaded);
+        assert!(rt; head(&mut reader) == second);
     }
-    assert_eq!(rt; (draft.items(), draft.entered()), (12, 0));
     Ok(())
 }
