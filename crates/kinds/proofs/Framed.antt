@@ -1,15 +1,14 @@
 -- What is proved once for every kind that is marks on axes: its laws, its fitting triples, and that counting realises a scenario.
 use Rattle.std.proofs.Common.{◌≡◌, ℕ, zero, suc, ◌<◌, ◌≤◌, Bool, true, false, T, eqb, ltb, ◌⊎◌, List, [], ◌∷◌, Decides, sym, refl, ap, ◌∙◌, subst, ap₂, inl, inr, arith, eqb→eq}
 use Prim.Native.Nat.{Ordering, compare}
-use Rattle.std.proofs.lemmas.Bool.{ltb-true, le-ltb, lt-ltb}
+use Rattle.std.proofs.lemmas.Bool.{ltb-true, lt-ltb}
 use Rattle.points.specs.Points.{converse as turned_round, same, compose}
 use Rattle.points.specs.Tests.{both, upto}
-use Rattle.points.specs.Ranks.{rank}
 use Rattle.points.specs.Scenarios.{entry}
 use Rattle.points.specs.Sets.{has}
-use Rattle.points.specs.Marks.{marks as marks-of, stands, in-scenario, mark-rank}
+use Rattle.points.specs.Marks.{in-scenario}
 use Rattle.points.proofs.Finite.{both_left, both_right, both-from, implies, implied, true-from, holds-from, upto-at, upto_from}
-use Rattle.points.proofs.Compare.{same-eq, compare_self, compare-converse, compose-compare}
+use Rattle.points.proofs.Compare.{same-eq, compare-converse, compose-compare}
 use Rattle.points.proofs.Tabled.{has-beyond}
 use Rattle.points.proofs.Marked.{Fitting as Fitting-marks, ranks-pair, ranks-own}
 use Rattle.kinds.specs.Meaning.{Meaning, Exactly-one, Laws, Fits, Fitting, Realises}

@@ -1,5 +1,5 @@
 -- No two words of a list are alike, by one test that the checker computes.
-use Rattle.std.proofs.Common.{◌≡◌, ℕ, ◌<◌, Bool, true, false, T, eqb, List, [], length, get_or, Some, None, Option, ap, eqb→eq}
+use Rattle.std.proofs.Common.{◌≡◌, ℕ, Bool, false, T, eqb, List, [], length, get_or, Some, None, Option, ap, eqb→eq}
 use Rattle.points.specs.Tests.{upto}
 use Rattle.points.proofs.Finite.{upto-at}
 use Rattle.kinds.specs.Words.{read, Unambiguous}

@@ -1,5 +1,5 @@
 -- Relation words: the texts by which files and reports name the base relations of a kind, in the order of their codes.
-use Rattle.std.specs.Prelude.{◌≡◌, ℕ, suc, ◌<◌, Bool, true, cond, ◌&&◌, List, [], ◌∷◌, length, Some, None, codes, Option, ◌==◌, slice_index, slice_index_or}
+use Rattle.std.specs.Prelude.{◌≡◌, ℕ, suc, ◌<◌, Bool, true, cond, ◌&&◌, List, [], ◌∷◌, length, Some, None, Option, ◌==◌, slice_index, slice_index_or}
 
 -- from place i on, the text has the bytes of the word
 abbrev pub goes_on : List ℕ → ℕ → List ℕ → Bool

@@ -1,6 +1,6 @@
 -- Moments are one mark on one line.
-use Rattle.std.specs.Prelude.{◌≡◌, ℕ, zero, suc, ◌<◌, ◌≤◌, List, [], ◌∷◌, refl}
-use Rattle.std.proofs.Common.{ap, arith, not-suc-le-zero, le_of_suc-le-suc}
+use Rattle.std.specs.Prelude.{◌≡◌, ℕ, zero, suc, ◌<◌, ◌≤◌, [], ◌∷◌, refl}
+use Rattle.std.proofs.Common.{arith, not-suc-le-zero, le_of_suc-le-suc}
 use Prim.Native.Nat.{Ordering, compare}
 use Rattle.std.proofs.lemmas.List.{get_or_past}
 use Rattle.points.proofs.Compare.{said, says, compare_self}

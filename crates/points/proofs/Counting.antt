@@ -1,5 +1,5 @@
 -- How many of a list pass a test.
-use Rattle.std.proofs.Common.{◌≡◌, ℕ, ◌+◌, ◌<◌, ◌≤◌, Bool, true, false, T, ◌⊎◌, List, [], ◌∷◌, refl, ap, subst, inl, inr, arith}
+use Rattle.std.proofs.Common.{◌≡◌, ◌<◌, ◌≤◌, Bool, true, false, T, List, [], ◌∷◌, refl, ap, subst, inl, inr, arith}
 use Rattle.points.specs.Ranks.{one, count, Has}
 
 pub one-le : (a b : Bool) → (T a → T b) → one a ≤ one b

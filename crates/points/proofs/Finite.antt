@@ -1,5 +1,5 @@
 -- Tests over all numbers below a bound and over all orderings, which the checker computes, and what they tell of each.
-use Rattle.std.proofs.Common.{◌≡◌, ℕ, zero, suc, ◌<◌, Bool, true, false, T, ◌⊎◌, sym, refl, subst, inl, inr, not-suc-le-zero, arith}
+use Rattle.std.proofs.Common.{◌≡◌, ℕ, zero, suc, ◌<◌, Bool, true, false, T, sym, refl, subst, inl, inr, not-suc-le-zero, arith}
 use Prim.Native.Nat.{Ordering}
 use Rattle.std.proofs.lemmas.Bool.{cases_order}
 use Rattle.points.specs.Tests.{both, upto}

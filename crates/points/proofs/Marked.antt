@@ -1,5 +1,5 @@
 -- The marks of items on one axis: where each triple of a scenario fits along the axis, the ranks of the marks have the scenario.
-use Rattle.std.proofs.Common.{◌≡◌, ℕ, zero, suc, ◌+◌, ◌*◌, ◌<◌, ◌≤◌, Bool, true, false, T, ◌⊎◌, List, [], ◌∷◌, sym, refl, ap, ◌∙◌, subst, inl, inr, not-suc-le-zero, add-one, arith}
+use Rattle.std.proofs.Common.{◌≡◌, ℕ, zero, suc, ◌+◌, ◌<◌, ◌≤◌, Bool, T, List, [], sym, ap, ◌∙◌, subst, inl, inr, not-suc-le-zero, add-one, arith}
 use Prim.Native.Nat.{Ordering, compare}
 use Rattle.std.proofs.lemmas.Bool.{cases_order, cases_lt}
 use Rattle.points.specs.Points.{converse, is_lt, compose}
@@ -7,7 +7,7 @@ use Rattle.points.specs.Ranks.{one, count, Has, rank, Consistent}
 use Rattle.points.specs.Scenarios.{entry}
 use Rattle.points.specs.Marks.{of-item, marks, choose, stands, in-scenario, mark-rank}
 use Rattle.points.proofs.Compare.{compare-lt, compare-gt, compare_self, compare-converse, compose-compare, converse-converse, compose-swap, compose-turn}
-use Rattle.points.proofs.Counting.{count_same, one-small}
+use Rattle.points.proofs.Counting.{count_same}
 use Rattle.points.proofs.Ranked.{rank-lemma}
 
 -- the marks of n items that have m each are the pairs (i, s) with i < n and s < m

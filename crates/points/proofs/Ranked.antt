@@ -1,5 +1,5 @@
 -- The rank lemma.
-use Rattle.std.proofs.Common.{◌≡◌, ℕ, ◌<◌, ◌≤◌, Bool, T, List, sym, refl, ap, ◌∙◌, subst, arith}
+use Rattle.std.proofs.Common.{◌≡◌, ◌<◌, ◌≤◌, T, List, sym, refl, ap, ◌∙◌, subst, arith}
 use Prim.Native.Nat.{Ordering, compare}
 use Rattle.points.specs.Points.{converse, is_lt, compose}
 use Rattle.points.specs.Ranks.{Has, rank, Consistent, Rank-lemma}

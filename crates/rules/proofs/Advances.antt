@@ -6,7 +6,6 @@ use Rattle.rules.specs.declared.row.Row.{Row}
 use Rattle.rules.specs.Costs.{cost}
 use Rattle.rules.specs.Orders.{Below, index, past}
 use Rattle.rules.specs.Steps.{Rules, Position, position, refuted, first_passing, looked-at, shortest, total, finished, step, advance, taken}
-use Rattle.rules.proofs.Orders.{index-lt}
 use Rattle.rules.proofs.Cursors.{digits-index, past_one}
 
 -- The first that passes is k, where none before k passes and k does; or past the range, where none in it passes.

@@ -1,5 +1,5 @@
 -- The cursor as codes: the number after all scenarios that share a prefix, by carrying.
-use Rattle.std.proofs.Common.{◌≡◌, ℕ, zero, suc, ◌+◌, ◌-◌, ◌*◌, ◌/◌, ◌^◌, ◌<◌, ◌≤◌, List, [], ◌∷◌, ◌++◌, length, get_or, take, drop, set, replicate, sym, refl, ap, ◌∙◌, subst, inl, inr, append_assoc, append-nil, mod-eq_of_lt, mul_assoc, mul_comm, add-mul, eq-or-lt_of_le, one-mul, pow-suc, zero-add, zero-mul, mul-one, div-one, arith, take-suc, pow-add}
+use Rattle.std.proofs.Common.{◌≡◌, ℕ, zero, suc, ◌+◌, ◌-◌, ◌*◌, ◌/◌, ◌^◌, ◌<◌, ◌≤◌, List, [], ◌∷◌, ◌++◌, length, get_or, take, drop, set, replicate, sym, ap, ◌∙◌, subst, inl, inr, append_assoc, append-nil, mul_assoc, mul_comm, add-mul, eq-or-lt_of_le, one-mul, pow-suc, zero-add, zero-mul, mul-one, div-one, arith, take-suc, pow-add}
 use native.Mathlib.Nat.{pow-zero}
 use lib.Arith.{digits_div}
 use Rattle.std.proofs.lemmas.List.{length-append, length-drop, length-replicate, length-take-le, take-append-drop, take_all, take-take, take-append-le, take-set-le, set_at, get_or_at}

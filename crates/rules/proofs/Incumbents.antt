@@ -1,5 +1,5 @@
 -- What the incumbent of a sound search is: the scenario of an assignment, and of least cost once the search has finished.
-use Rattle.std.proofs.Common.{◌≡◌, ℕ, ◌<◌, ◌≤◌, Bool, true, List, sym, subst, arith}
+use Rattle.std.proofs.Common.{◌≡◌, ℕ, ◌<◌, Bool, true, List, sym, subst, arith}
 use Rattle.std.proofs.lemmas.Bool.{leb-true}
 use Rattle.points.specs.Scenarios.{entry}
 use Rattle.kinds.specs.Meaning.{Meaning, Laws, Realises}

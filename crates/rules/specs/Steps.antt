@@ -1,5 +1,5 @@
 -- The step rule of the search.
-use Rattle.std.specs.Prelude.{ℕ, zero, suc, ◌+◌, ◌^◌, Bool, true, false, cond, not, ◌&&◌, ◌||◌, List, replicate, nat_le, nat_lt}
+use Rattle.std.specs.Prelude.{ℕ, zero, suc, ◌+◌, ◌^◌, Bool, false, cond, not, ◌&&◌, ◌||◌, List, replicate, nat_le, nat_lt}
 use Rattle.points.specs.Scenarios.{pairs, place, entry}
 use Rattle.tallies.specs.Joins.{Joining}
 use Rattle.tallies.specs.declared.claim.Claim.{Claim}

@@ -2,10 +2,9 @@
 use Rattle.std.proofs.Common.{◌≡◌, ℕ, zero, suc, ◌+◌, ◌-◌, ◌^◌, ◌<◌, ◌≤◌, Bool, true, false, cond, not, ◌&&◌, ltb, leb, ◌⊎◌, List, [], ◌∷◌, ◌++◌, length, get_or, take, set, replicate, vec_items, vec_capacity, Vec, sym, refl, ap, ◌∙◌, subst, inl, inr, eq-or-lt_of_le, pow-suc, mul-one, arith}
 use native.Mathlib.Nat.{pow-zero}
 use Rattle.std.specs.declared.alloc.Global.{Global}
-use Rattle.std.specs.List.{AllByRecursion as Every}
 use Rattle.std.proofs.lemmas.Bool.{and_parts, and_from, ltb-true, lt-ltb, le-leb, lt-leb, leb-true}
 use Rattle.std.proofs.ByRecursion.{All-append, All-get_or}
-use Rattle.std.proofs.lemmas.List.{length-take-le, get_or-take, take_more, take_more_set, take-replicate}
+use Rattle.std.proofs.lemmas.List.{length-take-le, get_or-take, take_more_set, take-replicate}
 use Rattle.points.specs.Scenarios.{pairs}
 use Rattle.points.proofs.Placed.{pairs-up}
 use Rattle.rules.specs.declared.row.Row.{Row}

@@ -1,12 +1,12 @@
 -- What the loop of a search keeps, so that a step looks only at what changed: costs of pairs, bounds of the remaining pairs, costs of
 -- prefixes, how long the prefixes are that are known not to be refuted, and from which place on the codes are 0.
 use Rattle.std.specs.Prelude.{◌≡◌, ℕ, ◌+◌, ◌-◌, ◌*◌, ◌<◌, ◌≤◌, Bool, false, List, length, slice_index, slice_index_or}
-use Rattle.points.specs.Scenarios.{pairs, entry}
+use Rattle.points.specs.Scenarios.{pairs}
 use Rattle.tallies.specs.Joins.{Joining}
 use Rattle.tallies.specs.Groups.{span}
 use Rattle.tallies.specs.declared.claim.Claim.{Claim}
 use Rattle.rules.specs.declared.row.Row.{Row}
-use Rattle.rules.specs.Costs.{of-rows, cost, pair-cost, pair-bound}
+use Rattle.rules.specs.Costs.{of-rows, pair-cost, pair-bound}
 use Rattle.rules.specs.Steps.{Rules, refuted}
 
 -- The cost of the first q pairs of a scenario, and the join of the lower bounds of the others of p pairs.

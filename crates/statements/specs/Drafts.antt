@@ -1,8 +1,8 @@
 -- What the calls of a draft answer and leave, over its number of items and its list of rows.
-use Rattle.std.specs.Prelude.{◌≡◌, ℕ, zero, suc, ◌+◌, ◌-◌, ◌^◌, Bool, true, false, cond, not, ◌&&◌, ◌||◌, List, [], ◌∷◌, ◌++◌, length, set, Some, None, Ok, Err, Result, ◌==◌, bit_or, nat_lt, slice_index_or}
+use Rattle.std.specs.Prelude.{◌≡◌, ℕ, zero, suc, ◌+◌, ◌-◌, ◌^◌, Bool, false, cond, not, ◌&&◌, List, [], ◌∷◌, ◌++◌, length, Some, None, Ok, Err, Result, ◌==◌, bit_or, nat_lt, slice_index_or}
 use Rattle.points.specs.Sets.{has}
 use Rattle.rules.specs.declared.row.Row.{Row}
-use Rattle.rules.specs.Rows.{no_row, with-struck, with-weight}
+use Rattle.rules.specs.Rows.{no_row}
 use Rattle.statements.specs.declared.entry.Entry.{Entry}
 use Rattle.statements.specs.declared.statement.Statement.{Statement}
 use Rattle.statements.specs.declared.fault.Fault.{Fault}

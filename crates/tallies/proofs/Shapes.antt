@@ -1,5 +1,5 @@
 -- The laws over lists give the laws over joins of any shape.
-use Rattle.std.proofs.Common.{◌≡◌, ◌≤◌, Bool, false, List, [], ◌∷◌, ◌++◌, length, sym, refl, ap, ◌∙◌, arith, length-append}
+use Rattle.std.proofs.Common.{◌≡◌, ◌≤◌, Bool, false, List, [], ◌∷◌, length, sym, refl, ap, ◌∙◌, arith, length-append}
 use Rattle.tallies.specs.Joins.{Joining, Monoid, Ranking, joined, most-penalties}
 use Rattle.tallies.specs.Shapes.{Shape, empty, one, both, size, listing, cost-of, Listed, Monoid-of-shapes, Ranking-of-shapes}
 use Rattle.tallies.proofs.Joins.{append, identity-right as list-identity-right}

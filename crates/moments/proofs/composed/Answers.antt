@@ -1,4 +1,4 @@
-use Rattle.std.proofs.Common.{ℕ, ◌≤◌, ◌⊎◌, inl, inr, arith}
+use Rattle.std.proofs.Common.{inl, inr, arith}
 use Rattle.points.proofs.Tabled.{table-right, computed, look}
 use Rattle.kinds.specs.Layouts.{fit}
 use Rattle.moments.specs.Moments.{line}

@@ -1,4 +1,4 @@
-use Rattle.std.proofs.Common.{◌≡◌, ℕ, ◌*◌, ◌/◌, sym, ap, ◌∙◌}
+use Rattle.std.proofs.Common.{ℕ, ◌*◌, ◌/◌, ap, ◌∙◌}
 use Rattle.points.proofs.Placed.{pairs-half}
 use Rattle.points.proofs.scenario.pairs.Goals as goal
 

@@ -1,5 +1,5 @@
 -- One more row with each turn.
-use Rattle.std.proofs.Common.{◌≡◌, Bool, ◌&&◌, get_or, take, sym, ap, ◌∙◌}
+use Rattle.std.proofs.Common.{Bool, ◌&&◌, get_or, sym, ap, ◌∙◌}
 use Rattle.std.proofs.lemmas.List.{take_all}
 use Rattle.rules.specs.Properly.{row-proper, all-proper}
 use Rattle.rules.specs.Rows.{no_row}

@@ -1,4 +1,4 @@
-use Rattle.std.proofs.Common.{ℕ, ◌≤◌, ◌⊎◌, List, [], get_or, inl, inr, arith}
+use Rattle.std.proofs.Common.{List, [], get_or, inl, inr, arith}
 use Rattle.points.proofs.Tabled.{table-right, listed, set-of}
 use Rattle.kinds.specs.Layouts.{fit}
 use Rattle.kinds.proofs.Framed.{fit-beyond, none-fit}

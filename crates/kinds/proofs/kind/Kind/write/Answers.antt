@@ -1,6 +1,6 @@
 use Rattle.std.proofs.Common.{◌≡◌, ℕ, ◌+◌, List, set, sym, ap, ◌∙◌, subst, arith}
 use Rattle.kinds.specs.Pages.{Written}
-use Rattle.kinds.proofs.Paged.{written_none, written-more, written-past, realised-on}
+use Rattle.kinds.proofs.Paged.{written-more, written-past, realised-on}
 use Rattle.kinds.proofs.kind.Kind.write.Goals as goal
 use Rattle.kinds.proofs.kind.Kind.write.Goals.{then-i-page, else-i-page}
 

@@ -1,4 +1,4 @@
-use Rattle.std.proofs.Common.{◌≡◌, ℕ, ltb, sym, ap, ◌∙◌, subst, arith}
+use Rattle.std.proofs.Common.{◌≡◌, ℕ, sym, ap, ◌∙◌, subst, arith}
 use Prim.Native.Nat.{Ordering, compare}
 use Rattle.points.specs.Points.{converse, is_lt}
 use Rattle.points.specs.Marks.{stands, in-scenario, drawn}

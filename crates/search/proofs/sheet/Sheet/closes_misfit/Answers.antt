@@ -1,12 +1,12 @@
 -- The triples that the pair closes decide, in the array as in the scenario.
-use Rattle.std.proofs.Common.{◌≡◌, ℕ, ◌+◌, ◌<◌, ◌≤◌, Bool, not, List, get_or, sym, refl, ap, ◌∙◌, subst, arith}
+use Rattle.std.proofs.Common.{◌≡◌, ℕ, ◌+◌, ◌≤◌, Bool, not, List, get_or, sym, ap, ◌∙◌, arith}
 use Rattle.std.proofs.lemmas.List.{get_or-take}
 use Rattle.points.specs.Scenarios.{pairs}
 use Rattle.points.proofs.Placed.{pairs-up}
 use Rattle.search.specs.Closed.{cursor-of, rules-of}
 use Rattle.rules.specs.Steps.{some}
 use Rattle.search.proofs.Closed.{pairs-few}
-use Rattle.search.proofs.Prefixes.{some_same, unfit-closed, high-within}
+use Rattle.search.proofs.Prefixes.{some_same, unfit-closed}
 use Rattle.search.proofs.sheet.Sheet.closes_misfit.Goals as goal
 
 pub sides-low-requires : goal.sides-low-requires

@@ -2,10 +2,9 @@
 use Rattle.std.proofs.Common.{◌≡◌, ℕ, ◌^◌, ◌≤◌, true, cond, List, take, replicate, sym, refl, ap, ◌∙◌, subst, arith}
 use Rattle.std.proofs.lemmas.List.{take-replicate}
 use Rattle.points.specs.Scenarios.{pairs}
-use Rattle.search.specs.Closed.{closes}
 use Rattle.rules.specs.Orders.{index}
 use Rattle.search.specs.Sheets.{all-below}
-use Rattle.rules.specs.Steps.{Position, position}
+use Rattle.rules.specs.Steps.{position}
 use Rattle.search.proofs.Closed.{pairs-few, closes-parts, zeros-below}
 use Rattle.search.proofs.sheet.Sheet.closing.Goals as goal
 

@@ -1,12 +1,11 @@
 -- One more pair with each turn, from the last on.
-use Rattle.std.proofs.Common.{◌≡◌, ℕ, suc, ◌+◌, ◌-◌, ◌*◌, ◌<◌, ◌≤◌, ◌≢◌, List, length, get_or, set, sym, refl, ap, ◌∙◌, subst, inl, inr, eq-or-lt_of_le, arith, rules}
+use Rattle.std.proofs.Common.{◌≡◌, ℕ, suc, ◌+◌, ◌-◌, ◌*◌, ◌<◌, ◌≤◌, ◌≢◌, List, length, get_or, set, sym, ap, ◌∙◌, subst, inl, inr, eq-or-lt_of_le, arith, rules}
 use Rattle.std.proofs.lemmas.List.{length-set, get_or-set_same, get_or-set_other, get_or_default}
-use Rattle.points.specs.Scenarios.{pairs}
 use Rattle.tallies.specs.Groups.{span}
 use Rattle.rules.specs.declared.row.Row.{Row}
 use Rattle.rules.specs.Costs.{of-rows, pair-cost, pair-bound}
 use Rattle.search.specs.Closed.{rows_of}
-use Rattle.search.specs.Tables.{owed-from, Priced, Owed}
+use Rattle.search.specs.Tables.{owed-from, Owed}
 use Rattle.rules.proofs.Properly.{few-rows}
 use Rattle.search.proofs.Closed.{pairs-few}
 use Rattle.search.proofs.Loops.{bounds-first, turn-joins}

@@ -1,10 +1,8 @@
 -- By its cost and the bounds of the other pairs, or by the triples that its last pair closes.
-use Rattle.std.proofs.Common.{◌≡◌, ℕ, ◌+◌, ◌-◌, ◌<◌, ◌≤◌, Bool, true, false, ◌||◌, length, get_or, sym, refl, ap, ◌∙◌, subst, arith, rules}
+use Rattle.std.proofs.Common.{◌≡◌, ℕ, ◌+◌, ◌-◌, ◌<◌, Bool, true, false, ◌||◌, refl, ap, ◌∙◌, subst, arith, rules}
 use Rattle.std.proofs.lemmas.List.{get_or_default}
-use Rattle.points.specs.Scenarios.{pairs}
 use Rattle.search.specs.Closed.{rows_of, cursor-of, rules-of}
-use Rattle.rules.specs.Steps.{Rules, unfit}
-use Rattle.search.specs.Tables.{owed-from}
+use Rattle.rules.specs.Steps.{unfit}
 use Rattle.search.proofs.Closed.{pairs-few}
 use Rattle.search.proofs.Prefixes.{unfit-zero, refuted-by, stands-fits}
 use Rattle.search.proofs.sheet.Sheet.is_refuted.Goals as goal

@@ -1,5 +1,5 @@
 -- One more prefix with each turn.
-use Rattle.std.proofs.Common.{◌≡◌, ℕ, ◌+◌, ◌-◌, ◌<◌, ◌≤◌, length, sym, refl, ap, ◌∙◌, subst, arith, rules, below_more}
+use Rattle.std.proofs.Common.{◌≡◌, ◌+◌, ◌<◌, ◌≤◌, sym, ◌∙◌, arith, rules, below_more}
 use Rattle.std.proofs.lemmas.List.{length-set}
 use Rattle.points.specs.Scenarios.{pairs}
 use Rattle.search.specs.Closed.{rows_of, cursor-of, rules-of}

@@ -1,5 +1,5 @@
 -- What is asked of an entry that is kept follows from its checks, and its row is proper.
-use Rattle.std.proofs.Common.{◌≡◌, true, sym, subst, arith}
+use Rattle.std.proofs.Common.{◌≡◌, true, sym, subst}
 use Rattle.rules.specs.declared.row.Row.{Row}
 use Rattle.rules.specs.Properly.{row-proper}
 use Rattle.statements.proofs.Accepted.{acceptable, sound-entry}
