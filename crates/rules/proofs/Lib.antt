@@ -7,6 +7,7 @@ pub mod Scenarios
 pub mod Groups
 pub mod Costs
 pub mod Bounds
+pub mod Floors
 pub mod Compared
 pub mod Steps
 pub mod Assignments

@@ -12,7 +12,7 @@ use Rattle.rules.specs.Costs.{cost}
 use Rattle.rules.specs.Steps.{Position}
 use Rattle.rules.specs.Soundness.{Assignment, scenario-by, Settled, rules}
 
--- A network gives each pair of items, by its place in a scenario, a constraint: which codes it allows.
+-- A network gives each pair of items, by its place in a scenario, a constraint: whether it allows a code. The place comes first.
 abbrev pub Network : Type 0
 Network = ℕ → ℕ → Bool
 

@@ -2,11 +2,12 @@
 use Rattle.std.specs.Prelude.{◌≡◌, ℕ, zero, suc, ◌+◌, ◌-◌, ◌*◌, ◌/◌, ◌%◌, ◌^◌, ◌<◌, ◌⊎◌, ◌↔◌, List, [], ◌∷◌, ◌++◌, length}
 use Rattle.std.specs.List.{AllByRecursion as Every}
 
--- the pairs (0, j), .., (i - 1, j), and all pairs of n items, with the codes f
+-- the codes of the pairs (0, j), .., (i - 1, j), where the pair of i and j has the code f i j
 abbrev pub column : (ℕ → ℕ → ℕ) → ℕ → ℕ → List ℕ
 column f j zero = []
 column f j (suc i) = column f j i ++ (f i j ∷ [])
 
+-- those of all pairs of n items, in their order: (0, 1), (0, 2), (1, 2), (0, 3), and so on
 abbrev pub scenario-of : (ℕ → ℕ → ℕ) → ℕ → List ℕ
 scenario-of f zero = []
 scenario-of f (suc j) = scenario-of f j ++ column f j j

@@ -41,7 +41,8 @@ with-weight r w = record { low = r.low; high = r.high; set = r.set; weight = w; 
 abbrev pub spot : Row → ℕ
 spot r = place r.low r.high
 
--- At most 256 rows, each on two of n items, the lower first, by a person from 1 to 20.
+-- At most 256 rows, each on two of n items, the lower first, by a person from 1 to 20: what the mathematics of the search needs of a list.
+-- A draft keeps more (`proper`, of which this follows): weights are 1 to 1,000 too.
 pub record Proper (n : ℕ) (rows : List Row) : Type 0 where
   pub few : length rows ≤ most-penalties
   pub items : Every (λ (r : Row). (r.low < r.high) × (r.high < n)) rows

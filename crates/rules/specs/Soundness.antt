@@ -7,7 +7,7 @@ use Rattle.tallies.specs.Joins.{Joining}
 use Rattle.tallies.specs.declared.claim.Claim.{Claim}
 use Rattle.rules.specs.declared.row.Row.{Row}
 use Rattle.rules.specs.Rows.{Proper}
-use Rattle.rules.specs.Costs.{of-rows, cost, charge, pair-cost}
+use Rattle.rules.specs.Costs.{of-rows, cost, charge, pair-cost, sheet-bound}
 use Rattle.rules.specs.Orders.{scenario-of, Below, Before, index}
 use Rattle.rules.specs.Steps.{Rules, Position, best-cost, total, step, opening, advance, taken}
 
@@ -28,9 +28,11 @@ cost-by m j rows x = cost j rows (codes-of m x)
 
 -- The invariant of a search.
 pub record Sound {V C : Type 0} (m : Meaning V) (r : Rules C) (n : ℕ) (rows : List Row) (s : Position) : Type 0 where
+  -- The incumbent has a code for each pair, and its triples all fit.
   pub long : length s.incumbent ≡ pairs n
   pub codes : Below r.codes s.incumbent
   pub fitting : Fitting m n s.incumbent
+  -- The cursor is at a scenario after the incumbent, or past the last.
   pub within : s.cursor ≤ total r n
   pub behind : index r.codes s.incumbent < s.cursor
   -- no assignment whose scenario lies before the cursor costs less
@@ -43,11 +45,12 @@ pub record Step-keeps {V C : Type 0} (m : Meaning V) (r : Rules C) (n : ℕ) (ro
   pub sound : Sound m r n rows (step r n rows s)
   pub on : s.cursor < (step r n rows s).cursor
 
--- So does a search of up to k steps: the cursor moves by as many places as steps are taken, at least, and fewer than k are taken only
--- where the search has then finished.
+-- So does a search of up to k steps.
 pub record Search-keeps {V C : Type 0} (m : Meaning V) (r : Rules C) (n : ℕ) (rows : List Row) (k : ℕ) (s : Position) : Type 0 where
   pub sound : Sound m r n rows (advance r n rows k s)
+  -- the cursor moves by as many places as steps are taken, at least
   pub on : s.cursor + taken r n rows k s ≤ (advance r n rows k s).cursor
+  -- all k steps are taken, unless the search has then finished, and never more
   pub all : (advance r n rows k s).cursor < total r n → taken r n rows k s ≡ k
   pub most : taken r n rows k s ≤ k
 
@@ -67,6 +70,11 @@ pub record Settled {V C : Type 0} (m : Meaning V) (r : Rules C) (n : ℕ) (rows 
   pub least : done ≡ true → (y : ℕ → V) → Assignment m n y → r.at_most paid (cost-by m r.joining rows y) ≡ true
   -- Each assignment whose scenario lies before that of x costs more: x is the first of its cost.
   pub first : (y : ℕ → V) → Assignment m n y → Before (scenario-by m n y) (scenario-by m n x) → r.at_most (cost-by m r.joining rows y) paid ≡ false
+
+-- The lower bound of a sheet is at most the cost of each of its assignments.
+abbrev pub Bound-below : {V C : Type 0} → Meaning V → Rules C → Type 0
+Bound-below {V = V} m r = (n : ℕ) (rows : List Row) → Proper n rows → (y : ℕ → V) → Assignment m n y
+    → r.at_most (sheet-bound r.joining r.at_most r.codes n rows) (cost-by m r.joining rows y) ≡ true
 
 -- The costs of the pairs join to the cost of a scenario.
 abbrev pub Pairs-join : {C : Type 0} → Joining Claim C → Type 0

@@ -7,7 +7,8 @@ use Rattle.rules.specs.declared.row.Row.{Row}
 use Rattle.rules.specs.Costs.{cost, prefix-bound}
 use Rattle.rules.specs.Orders.{digits, past}
 
--- What a search needs to know of a kind and a tally: the number of codes, which triples fit, joining, and "at most".
+-- What a search needs to know of a kind and a tally: the number of codes; which triples fit, by the codes of (i, j), (j, k) and (i, k);
+-- joining; and "at most".
 pub record Rules (C : Type 0) : Type 0 where
   pub codes : ℕ
   pub fit : ℕ → ℕ → ℕ → Bool

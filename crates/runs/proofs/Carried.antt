@@ -19,6 +19,7 @@ use Rattle.statements.specs.Faults.{first-fault}
 use Rattle.statements.specs.Searches.{search-checks, charge-checks}
 use Rattle.sheets.specs.declared.closed.Closed.{Closed}
 use Rattle.sheets.specs.Closed.{Searched}
+use Rattle.sheets.proofs.Searches.{same-rules}
 use Rattle.runs.specs.declared.call.Call.{Call}
 use Rattle.runs.specs.declared.call.Call.TheVariants.{Search, Show, Charge}
 use Rattle.runs.specs.declared.answer.Answer.{Answer}
@@ -29,17 +30,12 @@ use Rattle.runs.specs.Models.{Model, closed, verdict, next, after}
 use Rattle.runs.specs.Answers.{Showing, Answers-call, Answers-script}
 use Rattle.runs.specs.States.{closed-view, Views, Ready, Carries}
 
--- the rules of a sheet that has the codes of its kind are those of the kind
-same_rules : {V C : Type 0} (m : Meaning V) (fit : ℕ → ℕ → ℕ → Bool) (j : Joining Claim C) (at_most : C → C → Bool) (s : Sheet)
-    → s.codes ≡ m.codes → rules-of s fit j at_most ≡ rules m fit j at_most
-same_rules {C = C} m fit j at_most s e = ap (λ (b : ℕ). let x : Rules C = record { codes = b; fit = fit; joining = j; at_most = at_most } in x) e
-
 module _ {A B V C : Type 0} {k : Kinds A V} {t : Tallies B C} {g : Joinings B C} (m : Meaning V) (fit : ℕ → ℕ → ℕ → Bool) (values : ℕ → List ℕ → ℕ → V)
     (j : Joining Claim C) (at_most : C → C → Bool) where
   pub carried-search : (s s' : Closed A B V C) (steps took : ℕ) → s.sheet.codes ≡ m.codes → first-fault (search-checks steps) ≡ None
       → Searched (rules-of s.sheet fit j at_most) s.sheet s'.sheet steps took → (so_far asked : ℕ) → Carries {k = k} {t = t} {j = g} m values (rules m fit j at_most) (closed-view s so_far asked) (Search steps) (Closing s') (Took took)
   carried-search s s' steps took e pass found so_far asked =
-      let is : Searched (rules m fit j at_most) s.sheet s'.sheet steps took = subst (λ (u : Rules C). Searched u s.sheet s'.sheet steps took) (same_rules m fit j at_most s.sheet e) found in
+      let is : Searched (rules m fit j at_most) s.sheet s'.sheet steps took = subst (λ (u : Rules C). Searched u s.sheet s'.sheet steps took) (same-rules m fit j at_most s.sheet e) found in
       let n = s.sheet.items in
       let rows = rows_of s.sheet in
       let at : Position = position-of s.sheet in

@@ -9,7 +9,8 @@ use Rattle.rules.specs.declared.row.Row.{Row}
 use Rattle.rules.specs.Rows.{Proper}
 use Rattle.rules.specs.Properly.{proper}
 use Rattle.rules.specs.Steps.{Rules, Position, best-cost, total, finished, advance, taken}
-use Rattle.rules.specs.Soundness.{Settled, rules}
+use Rattle.rules.proofs.Floors.{bound-below}
+use Rattle.rules.specs.Soundness.{cost-by, Settled, rules}
 use Rattle.rules.proofs.Orders.{in_order}
 use Rattle.rules.proofs.Properly.{proper-is}
 use Rattle.rules.proofs.Incumbents.{settled}
@@ -68,6 +69,8 @@ module _ {V C : Type 0} (m : Meaning V) (laws : Laws m) (fit : ℕ → ℕ → �
         let is : Settled m r n rows s x (best-cost r rows s) (finished r n s) = settled m laws fit j at_most n rows (proper-is n rows h.fine.sound) s h.sound x real in
         subst (λ (c : C). Settled m r n rows s x c sight.finished) (sym w.cost-is)
         (subst (λ (v : Bool). Settled m r n rows s x (best-cost r rows s) v) (sym w.finished-is) is);
+    below = λ y law. subst (λ (c : C). at_most c (cost-by m j rows y) ≡ true) (sym w.floor-is)
+        (bound-below m laws fit j monoid at_most ranking n rows (proper-is n rows h.fine.sound) y law);
     ends = λ l. w.finished-is ∙ asked-enough n rows s steps asked h (omega (arith, e.1, l));
   }
 

@@ -5,7 +5,7 @@ use Rattle.tallies.specs.Groups.{span}
 use Rattle.rules.specs.declared.row.Row.{Row}
 use Rattle.rules.specs.Orders.{In-order}
 use Rattle.rules.specs.Steps.{Rules, Position, total, finished}
-use Rattle.rules.specs.Soundness.{Settled}
+use Rattle.rules.specs.Soundness.{Assignment, cost-by, Settled}
 use Rattle.runs.specs.declared.call.Call.{Call}
 use Rattle.runs.specs.declared.call.Call.TheVariants.{Size, Enter, Strike, Reweigh, Look, Close, Search, Show, Charge, Reopen}
 use Rattle.runs.specs.declared.answer.Sight.{Sight}
@@ -103,7 +103,7 @@ reopens (Show places) a = false
 reopens (Charge p) a = false
 reopens Reopen a = is-done a
 
--- The sum of g over the places before i since a draft was last closed; `sum` is what it was before.
+-- The sum of g over the places before i since a draft was last closed, where the sum so far is `sum`; closing a draft sets it to 0.
 abbrev pub since : {V C : Type 0} → (Call → Answer V C → ℕ) → ℕ → List Call → List (Answer V C) → ℕ → ℕ
 since g zero cs bs sum = sum
 since g (suc i) [] bs sum = sum
@@ -134,6 +134,8 @@ module _ {V C : Type 0} (m : Meaning V) (r : Rules C) where
   pub record Sight-law (sight : Sight V C) (wants : ℕ) (n : ℕ) (rows : List Row) (s : Position) : Type 0 where
     pub each : length (vec_items sight.values) ≡ n
     pub settled : (other : V) → Settled m r n rows s (λ i. slice_index_or (vec_items sight.values) i other) sight.cost sight.finished
+    -- The lower bound that is shown is at most the cost of any assignment.
+    pub below : (y : ℕ → V) → Assignment m n y → r.at_most sight.floor (cost-by m r.joining rows y) ≡ true
     -- It is shown as finished once the accepted searches have asked for as many steps as there are scenarios after the first.
     pub ends : total r n - 1 ≤ wants → sight.finished ≡ true
 

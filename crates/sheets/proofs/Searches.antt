@@ -1,5 +1,5 @@
 -- A sheet is closed with a sound search, each search keeps it so, and what a show of it answers is settled.
-use Rattle.std.proofs.Common.{◌≡◌, ℕ, ◌+◌, ◌<◌, ◌≤◌, Bool, false, List, get_or, Decides, sym, ap, ◌∙◌, subst}
+use Rattle.std.proofs.Common.{◌≡◌, ℕ, ◌+◌, ◌<◌, ◌≤◌, Bool, true, false, List, get_or, Decides, sym, ap, ◌∙◌, subst}
 use Rattle.std.proofs.lemmas.Bool.{leb-false}
 use Rattle.points.specs.Scenarios.{entry}
 use Rattle.kinds.specs.Meaning.{Meaning, Laws, Fits, Realises, Realisation}
@@ -7,11 +7,12 @@ use Rattle.tallies.specs.Joins.{Joining, Monoid, Ranking}
 use Rattle.tallies.specs.declared.claim.Claim.{Claim}
 use Rattle.rules.specs.declared.row.Row.{Row}
 use Rattle.rules.specs.Rows.{Proper}
-use Rattle.rules.specs.Costs.{cost}
+use Rattle.rules.specs.Costs.{cost, sheet-bound}
 use Rattle.rules.specs.Steps.{Rules, Position, opening, advance, taken, total, finished}
-use Rattle.rules.specs.Soundness.{Sound, Settled, Search-keeps, rules}
+use Rattle.rules.specs.Soundness.{cost-by, Sound, Settled, Search-keeps, rules}
 use Rattle.rules.proofs.Properly.{proper-is}
 use Rattle.rules.proofs.Soundness.{search-sound, search-keeps}
+use Rattle.rules.proofs.Floors.{bound-below}
 use Rattle.rules.proofs.Incumbents.{settled}
 use Rattle.search.specs.declared.sheet.Sheet.{Sheet}
 use Rattle.search.specs.Closed.{rows_of, position-of, rules-of}
@@ -23,7 +24,7 @@ proper-rows : (s : Sheet) → Proper s.items (rows_of s)
 proper-rows s = proper-is s.items (rows_of s) s.sound
 
 -- With the codes of the kind, the rules of a sheet are those of the kind and the tally.
-same-rules : {V C : Type 0} (m : Meaning V) (fit : ℕ → ℕ → ℕ → Bool) (j : Joining Claim C) (at_most : C → C → Bool) (s : Sheet)
+pub same-rules : {V C : Type 0} (m : Meaning V) (fit : ℕ → ℕ → ℕ → Bool) (j : Joining Claim C) (at_most : C → C → Bool) (s : Sheet)
     → s.codes ≡ m.codes → rules-of s fit j at_most ≡ rules m fit j at_most
 same-rules {C = C} m fit j at_most s coded =
     let by : ℕ → Rules C = λ b. record { codes = b; fit = fit; joining = j; at_most = at_most } in ap by coded
@@ -84,19 +85,28 @@ module _ {V C : Type 0} (m : Meaning V) (laws : Laws m) (fit : ℕ → ℕ → �
 pub same-scenario : (P : ℕ → List ℕ → Type 0) (i n : ℕ) (b a : List ℕ) → i ≡ n → b ≡ a → P i b → P n a
 same-scenario P i n b a items scenario x = subst (λ (c : List ℕ). P n c) scenario (subst (λ (k : ℕ). P k b) items x)
 
--- Values on a page that have the scenario of the incumbent of a sound search are settled, with the cost and the end that are shown.
-pub shown-settles : {V C : Type 0} (m : Meaning V) → Laws m → (fit : ℕ → ℕ → ℕ → Bool) (j : Joining Claim C) (at_most : C → C → Bool)
-    (s : Sheet) (page : List V) (a : Shown C) → Sound-sheet m (rules m fit j at_most) s
+-- Values on a page that have the scenario of the incumbent of a sound search are settled, with the cost and the end that are shown; and
+-- the lower bound that is shown lies at or below every cost.
+pub shown-settles : {V C : Type 0} (m : Meaning V) → Laws m → (fit : ℕ → ℕ → ℕ → Bool) (j : Joining Claim C) → Monoid j → (at_most : C → C → Bool) → Ranking j at_most
+    → (s : Sheet) (page : List V) (a : Shown C) → Sound-sheet m (rules m fit j at_most) s
     → a.cost ≡ cost j (rows_of s) (entry (position-of s).incumbent)
+    → a.floor ≡ sheet-bound j at_most s.codes s.items (rows_of s)
     → a.finished ≡ finished (rules-of s fit j at_most) s.items (position-of s)
     → ((other : V) → Realises m s.items (position-of s).incumbent (λ i. get_or page i other))
     → Settles m (rules m fit j at_most) s page a
-shown-settles {V = V} {C = C} m laws fit j at_most s page a sheet paid done real other =
+shown-settles {V = V} {C = C} m laws fit j monoid at_most ranking s page a sheet paid bound done real =
     let r : Rules C = rules m fit j at_most in
-    let x : ℕ → V = λ i. get_or page i other in
     let ends : a.finished ≡ finished r s.items (position-of s) =
     by_kind m fit j at_most s sheet.coded (λ (q : Rules C). a.finished ≡ finished q s.items (position-of s)) done in
-    let by-incumbent : Settled m r s.items (rows_of s) (position-of s) x (cost j (rows_of s) (entry (position-of s).incumbent)) (finished r s.items (position-of s)) =
-    settled m laws fit j at_most s.items (rows_of s) (proper-rows s) (position-of s) sheet.sound x (real other) in
-    subst (λ (z : Bool). Settled m r s.items (rows_of s) (position-of s) x a.cost z) (sym ends)
-    (subst (λ (z : C). Settled m r s.items (rows_of s) (position-of s) x z (finished r s.items (position-of s))) (sym paid) by-incumbent)
+    let floor : a.floor ≡ sheet-bound j at_most m.codes s.items (rows_of s) =
+    by_kind m fit j at_most s sheet.coded (λ (q : Rules C). a.floor ≡ sheet-bound j at_most q.codes s.items (rows_of s)) bound in
+    record {
+      settled = λ other.
+          let x : ℕ → V = λ i. get_or page i other in
+          let by-incumbent : Settled m r s.items (rows_of s) (position-of s) x (cost j (rows_of s) (entry (position-of s).incumbent)) (finished r s.items (position-of s)) =
+          settled m laws fit j at_most s.items (rows_of s) (proper-rows s) (position-of s) sheet.sound x (real other) in
+          subst (λ (z : Bool). Settled m r s.items (rows_of s) (position-of s) x a.cost z) (sym ends)
+          (subst (λ (z : C). Settled m r s.items (rows_of s) (position-of s) x z (finished r s.items (position-of s))) (sym paid) by-incumbent);
+      below = λ y law. subst (λ (z : C). at_most z (cost-by m j (rows_of s) y) ≡ true) (sym floor)
+          (bound-below m laws fit j monoid at_most ranking s.items (rows_of s) (proper-rows s) y law);
+    }

@@ -1,12 +1,12 @@
 -- What the calls of a closed sheet keep and answer.
-use Rattle.std.specs.Prelude.{◌≡◌, ℕ, ◌+◌, ◌≤◌, false, List, slice_index_or}
+use Rattle.std.specs.Prelude.{◌≡◌, ℕ, ◌+◌, ◌≤◌, true, false, List, slice_index_or}
 use Rattle.points.specs.Scenarios.{entry}
 use Rattle.kinds.specs.Meaning.{Meaning}
 use Rattle.kinds.specs.Pages.{Written}
 use Rattle.rules.specs.declared.row.Row.{Row}
 use Rattle.rules.specs.Costs.{cost, sheet-bound}
 use Rattle.rules.specs.Steps.{Rules, advance, taken, finished}
-use Rattle.rules.specs.Soundness.{Sound, Settled}
+use Rattle.rules.specs.Soundness.{Assignment, cost-by, Sound, Settled}
 use Rattle.search.specs.declared.sheet.Sheet.{Sheet}
 use Rattle.search.specs.Closed.{rows_of, position-of}
 use Rattle.sheets.specs.declared.closed.Shown.{Shown}
@@ -43,6 +43,8 @@ pub record Shows {V C : Type 0} (values : ℕ → List ℕ → ℕ → V) (r : R
   pub floor-is : a.floor ≡ sheet-bound r.joining r.at_most r.codes s.items (rows_of s)
   pub finished-is : a.finished ≡ finished r s.items (position-of s)
 
--- What a show of a sound sheet promises of the values on the page.
-abbrev pub Settles : {V C : Type 0} → Meaning V → Rules C → Sheet → List V → Shown C → Type 0
-Settles {V = V} m r s page a = (other : V) → Settled m r s.items (rows_of s) (position-of s) (λ i. slice_index_or page i other) a.cost a.finished
+-- What a show of a sound sheet promises of the values on the page, and of the lower bound that it answers: it is at most the cost of any
+-- assignment.
+pub record Settles {V C : Type 0} (m : Meaning V) (r : Rules C) (s : Sheet) (page : List V) (a : Shown C) : Type 0 where
+  pub settled : (other : V) → Settled m r s.items (rows_of s) (position-of s) (λ i. slice_index_or page i other) a.cost a.finished
+  pub below : (y : ℕ → V) → Assignment m s.items y → r.at_most a.floor (cost-by m r.joining (rows_of s) y) ≡ true

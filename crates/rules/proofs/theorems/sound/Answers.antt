@@ -2,6 +2,7 @@
 use Rattle.std.proofs.Common.{rules}
 use Rattle.rules.proofs.Orders.{in_order}
 use Rattle.rules.proofs.Costs.{pairs-join, charges-join}
+use Rattle.rules.proofs.Floors.{bound-below}
 use Rattle.rules.proofs.Soundness.{search-sound}
 use Rattle.rules.proofs.theorems.sound.Goals as goal
 
@@ -14,6 +15,7 @@ returns g c =
       persons = search rules;
       search = search-sound g.K.Kind.meaning kind.lawful g.K.Kind.fit kind.composes g.K.Kind.values kind.realises
           j monoid g.T.Tally.order g.met.T.Tally.ranks;
+      bound = bound-below g.K.Kind.meaning kind.lawful g.K.Kind.fit j monoid g.T.Tally.order g.met.T.Tally.ranks;
       pairs = pairs-join j monoid;
       charges = charges-join j monoid;
       order = in_order;

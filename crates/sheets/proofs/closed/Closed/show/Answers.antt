@@ -26,6 +26,6 @@ returns g c =
     let shown : Shown g.row.T-Cost.Denot = record { cost = c.cost.result; floor = c.bound.result; finished = c.finished.result } in
     record {
       answers = (search rules, record { written = written; cost-is = c.cost.ensures; floor-is = c.bound.ensures; finished-is = c.finished.ensures });
-      settles = λ sheet. shown-settles kind.meaning g.met.K.Kind.lawful kind.fit g.T.Joins.joining g.T.Tally.order s new shown sheet c.cost.ensures c.finished.ensures
+      settles = λ sheet. shown-settles kind.meaning g.met.K.Kind.lawful kind.fit g.T.Joins.joining g.met.T.Joins.monoid g.T.Tally.order g.met.T.Tally.ranks s new shown sheet c.cost.ensures c.bound.ensures c.finished.ensures
           (realised s.some s.few enough sheet.sound.fitting);
     }
