@@ -18,8 +18,8 @@ use kinds::notation::Notation;
 use sheets::held::Draft;
 use tallies::tally::Tally;
 
-/// The most bytes of a file.
-pub const LARGEST: usize = 65536;
+// The most bytes of a file.
+const LARGEST: usize = 65536;
 
 // A fault that is at no line.
 fn nowhere(fault: LineFault) -> SheetFault

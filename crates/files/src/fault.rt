@@ -34,7 +34,7 @@ pub enum LineFault {
 }
 
 impl LineFault {
-    /// The number of the fault, from 12 on; a draft's fault has its own.
+    /// The number of the fault, 12 to 17; a draft's fault has its own.
     pub fn number(&self) -> u8
         ensures { result ≡ fault_number self.now }
     {

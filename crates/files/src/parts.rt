@@ -15,7 +15,7 @@ pub struct Lines<'a> {
     rest: &'a [u8],
 }
 
-// Where `b` first stands, or the length.
+/// Where the byte first stands in the text, or the text's length.
 pub fn first_place(text: &[u8], b: u8) -> usize
     ensures within { result ≤ length text.now }
     ensures before { (k : ℕ) → k < result → slice_index text.now k ≢ b }
@@ -29,7 +29,7 @@ pub fn first_place(text: &[u8], b: u8) -> usize
     text.len()
 }
 
-// What stands before the first `by`, and what after it.
+/// What stands before the first byte `by`, and what after it; the whole text where there is none.
 pub fn split_once<'a>(text: &'a [u8], by: u8) -> (&'a [u8], Option<&'a [u8]>)
     ensures { Split by text.now result.0.now result.1 }
 {
@@ -42,6 +42,7 @@ pub fn split_once<'a>(text: &'a [u8], by: u8) -> (&'a [u8], Option<&'a [u8]>)
 }
 
 impl<'a> Parts<'a> {
+    /// All parts of the text are to come.
     pub fn new(text: &'a [u8], by: u8) -> Parts<'a>
         ensures { left result ≡ parted by text.now }
     {
@@ -51,6 +52,7 @@ impl<'a> Parts<'a> {
         }
     }
 
+    /// The next part, or that there is none.
     pub fn next(&mut self) -> Option<&'a [u8]>
         ensures { Gives self.old result self.new }
     {
@@ -64,12 +66,14 @@ impl<'a> Parts<'a> {
 }
 
 impl<'a> Lines<'a> {
+    /// All lines of the text are to come.
     pub fn new(rest: &'a [u8]) -> Lines<'a>
         ensures { result.rest.now ≡ rest.now }
     {
         Lines { rest }
     }
 
+    /// The next line, without its line feed, or that there is none.
     pub fn next(&mut self) -> Option<&'a [u8]>
         ensures { GivesLine self.old result self.new }
     {

@@ -1,4 +1,4 @@
-// Tests of the sheet's calls at the edges of what they accept, by the numbers of their refusals.
+// Tests of the calls of sheets and of the reader of files at the edges of what they accept, by the numbers of their refusals.
 #![tactic(auto)]
 
 #[cfg(test)]
