@@ -2,7 +2,7 @@
 use Rattle.std.specs.Prelude.{List, [], ◌∷◌, ◌++◌, Some, None, Option}
 use Rattle.runs.specs.declared.answer.Sight.{Sight}
 use Rattle.runs.specs.declared.answer.Answer.{Answer}
-use Rattle.runs.specs.declared.answer.Answer.TheVariants.{Unmade, Refused, Done, Entered, Looked, Took, Shown, Charged}
+use Rattle.runs.specs.declared.answer.Answer.TheVariants.{Shown, Charged}
 
 -- what an answer shows, and what it charges
 abbrev pub sight_in : {V C : Type 0} → Answer V C → Option (Sight V C)

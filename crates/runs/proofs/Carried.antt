@@ -12,7 +12,6 @@ use Rattle.rules.specs.declared.row.Row.{Row}
 use Rattle.rules.specs.Costs.{charge}
 use Rattle.rules.specs.Steps.{Rules, Position, advance, taken}
 use Rattle.rules.specs.Soundness.{rules}
-use Rattle.search.specs.declared.sheet.Sheet.{Sheet}
 use Rattle.search.specs.Closed.{rows_of, position-of, rules-of}
 use Rattle.statements.specs.declared.fault.Fault.{Fault}
 use Rattle.statements.specs.Faults.{first-fault}

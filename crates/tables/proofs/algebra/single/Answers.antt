@@ -1,5 +1,5 @@
 -- The shifted bit is the set of one.
-use Rattle.std.proofs.Common.{ℕ, sym, subst}
+use Rattle.std.proofs.Common.{sym, subst}
 use Rattle.std.proofs.lemmas.Nat.{one_shl}
 use Rattle.tables.specs.Relations.{Single}
 use Rattle.tables.proofs.Unions.{single-bit}
