@@ -19,7 +19,7 @@ use sheets::held::Draft;
 use tallies::tally::Tally;
 
 // The most bytes of a file.
-const LARGEST: usize = 65536;
+pub const LARGEST: usize = 65536;
 
 // A fault that is at no line.
 fn nowhere(fault: LineFault) -> SheetFault
