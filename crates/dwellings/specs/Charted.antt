@@ -6,67 +6,67 @@ use Rattle.std.proofs.lemmas.List.{get_or_past}
 use Rattle.std.proofs.lemmas.Bool.{ltb-true}
 use Rattle.points.specs.Points.{Says, same as alike}
 use Rattle.points.specs.Tests.{both}
-use Rattle.points.proofs.Finite.{both_left, both_right, true-from, every, every-at}
-use Rattle.points.proofs.Compare.{said, says, same-eq, compare_self}
+use Rattle.points.proofs.Finite.{both_left, both_right, true_from, every, every_at}
+use Rattle.points.proofs.Compare.{said, says, same_eq, compare_self}
 use Rattle.dwellings.specs.declared.Dwelling.{Dwelling}
 use Rattle.kinds.specs.Meaning.{Realisation}
-use Rattle.dwellings.specs.Dwellings.{Direction, same, north, north-east, east, south-east, south, south-west, west, north-west, Holds, directions, coded, code, dwellings, eastward, northward, along, compass, dwelling}
+use Rattle.dwellings.specs.Dwellings.{Direction, same, north, north_east, east, south_east, south, south_west, west, north_west, Holds, directions, coded, code, dwellings, eastward, northward, along, compass, dwelling}
 use Rattle.kinds.proofs.Framed.{Frame, realises}
 
 -- a direction by its two comparisons
 abbrev Axes : Direction → Dwelling → Dwelling → Type 0
 Axes d u v = Says (eastward d) u.east v.east × Says (northward d) u.north v.north
 
-axes-of : (d : Direction) (u v : Dwelling) → Holds d u v → Axes d u v
-axes-of same u v h = h
-axes-of north u v h = h
-axes-of north-east u v h = h
-axes-of east u v h = h
-axes-of south-east u v h = h
-axes-of south u v h = h
-axes-of south-west u v h = h
-axes-of west u v h = h
-axes-of north-west u v h = h
+axes_of : (d : Direction) (u v : Dwelling) → Holds d u v → Axes d u v
+axes_of same u v h = h
+axes_of north u v h = h
+axes_of north_east u v h = h
+axes_of east u v h = h
+axes_of south_east u v h = h
+axes_of south u v h = h
+axes_of south_west u v h = h
+axes_of west u v h = h
+axes_of north_west u v h = h
 
-of-axes : (d : Direction) (u v : Dwelling) → Axes d u v → Holds d u v
-of-axes same u v h = h
-of-axes north u v h = h
-of-axes north-east u v h = h
-of-axes east u v h = h
-of-axes south-east u v h = h
-of-axes south u v h = h
-of-axes south-west u v h = h
-of-axes west u v h = h
-of-axes north-west u v h = h
+of_axes : (d : Direction) (u v : Dwelling) → Axes d u v → Holds d u v
+of_axes same u v h = h
+of_axes north u v h = h
+of_axes north_east u v h = h
+of_axes east u v h = h
+of_axes south_east u v h = h
+of_axes south u v h = h
+of_axes south_west u v h = h
+of_axes west u v h = h
+of_axes north_west u v h = h
 
 -- the code of two comparisons has them
 abbrev told : Ordering → Ordering → Bool
 told o p = both (nat_lt (code o p) 9) (both (alike o (eastward (coded (code o p)))) (alike p (northward (coded (code o p)))))
 
 all_told : (o p : Ordering) → T (told o p)
-all_told o p = every-at (λ p. told o p) (every-at (λ o. every (λ p. told o p)) tt o) p
+all_told o p = every_at (λ p. told o p) (every_at (λ o. every (λ p. told o p)) tt o) p
 
 code_below : (o p : Ordering) → code o p < 9
 code_below o p =
-    ltb-true (code o p) 9 (true-from (nat_lt (code o p) 9) (both_left (nat_lt (code o p) 9) (both (alike o (eastward (coded (code o p)))) (alike p (northward (coded (code o p))))) (all_told o p)))
+    ltb-true (code o p) 9 (true_from (nat_lt (code o p) 9) (both_left (nat_lt (code o p) 9) (both (alike o (eastward (coded (code o p)))) (alike p (northward (coded (code o p))))) (all_told o p)))
 
-code-eastward : (o p : Ordering) → o ≡ eastward (coded (code o p))
-code-eastward o p =
-    same-eq o (eastward (coded (code o p)))
+code_eastward : (o p : Ordering) → o ≡ eastward (coded (code o p))
+code_eastward o p =
+    same_eq o (eastward (coded (code o p)))
     (both_left (alike o (eastward (coded (code o p)))) (alike p (northward (coded (code o p))))
     (both_right (nat_lt (code o p) 9) (both (alike o (eastward (coded (code o p)))) (alike p (northward (coded (code o p))))) (all_told o p)))
 
-code-northward : (o p : Ordering) → p ≡ northward (coded (code o p))
-code-northward o p =
-    same-eq p (northward (coded (code o p)))
+code_northward : (o p : Ordering) → p ≡ northward (coded (code o p))
+code_northward o p =
+    same_eq p (northward (coded (code o p)))
     (both_right (alike o (eastward (coded (code o p)))) (alike p (northward (coded (code o p))))
     (both_right (nat_lt (code o p) 9) (both (alike o (eastward (coded (code o p)))) (alike p (northward (coded (code o p))))) (all_told o p)))
 
-pub eastward-beyond : (c : ℕ) → 9 ≤ c → eastward (coded c) ≡ Ordering.eq
-eastward-beyond c h = ap eastward (get_or_past directions c same h)
+pub eastward_beyond : (c : ℕ) → 9 ≤ c → eastward (coded c) ≡ Ordering.eq
+eastward_beyond c h = ap eastward (get_or_past directions c same h)
 
-pub northward-beyond : (c : ℕ) → 9 ≤ c → northward (coded c) ≡ Ordering.eq
-northward-beyond c h = ap northward (get_or_past directions c same h)
+pub northward_beyond : (c : ℕ) → 9 ≤ c → northward (coded c) ≡ Ordering.eq
+northward_beyond c h = ap northward (get_or_past directions c same h)
 
 abbrev number : Dwelling → ℕ → ℕ → ℕ
 number v zero s = v.east
@@ -80,15 +80,15 @@ charted = record {
   same_codes = refl;
   ascends = λ v h a s t ha hs ht. alone v a s t hs ht;
   lawful = λ v h. tt;
-  seen = λ u v hu hv c h. (h.0, λ a s t ha hs ht. seen u v c (axes-of (coded c) u v h.1) a s t);
+  seen = λ u v hu hv c h. (h.0, λ a s t ha hs ht. seen u v c (axes_of (coded c) u v h.1) a s t);
   holds = λ u v hu hv c h e. (
     h,
-    of-axes (coded c) u v (
+    of_axes (coded c) u v (
       says (eastward (coded c)) u.east v.east (e 0 0 0 (omega arith) (omega arith) (omega arith)),
       says (northward (coded c)) u.north v.north (e 1 0 0 (omega arith) (omega arith) (omega arith)),
     ),
   );
-  told = λ u v hu hv. (code_below (compare u.east v.east) (compare u.north v.north), λ a s t ha hs ht. told-along u v a s t);
+  told = λ u v hu hv. (code_below (compare u.east v.east) (compare u.north v.north), λ a s t ha hs ht. told_along u v a s t);
   items = tt;
   selves = tt;
   converses = tt;
@@ -114,11 +114,11 @@ charted = record {
     seen u v c h zero s t = said (eastward (coded c)) u.east v.east h.0
     seen u v c h (suc a) s t = said (northward (coded c)) u.north v.north h.1
 
-    told-along : (u v : Dwelling) (a s t : ℕ) → compare (number u a s) (number v a t) ≡ along a (coded (dwellings.relation u v))
-    told-along u v zero s t = code-eastward (compare u.east v.east) (compare u.north v.north)
-    told-along u v (suc a) s t = code-northward (compare u.east v.east) (compare u.north v.north)
+    told_along : (u v : Dwelling) (a s t : ℕ) → compare (number u a s) (number v a t) ≡ along a (coded (dwellings.relation u v))
+    told_along u v zero s t = code_eastward (compare u.east v.east) (compare u.north v.north)
+    told_along u v (suc a) s t = code_northward (compare u.east v.east) (compare u.north v.north)
 
 -- counting the items to the west and to the south realises a scenario of dwellings
-pub dwellings-realise : Realisation dwellings dwelling
+pub dwellings_realise : Realisation dwellings dwelling
 unfolding charted
-dwellings-realise n scenario some few h = realises dwellings compass charted n scenario h
+dwellings_realise n scenario some few h = realises dwellings compass charted n scenario h

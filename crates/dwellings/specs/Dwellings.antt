@@ -3,26 +3,26 @@ use Rattle.std.specs.Prelude.{◌≡◌, ℕ, zero, suc, ◌<◌, List, [], ◌�
 use Prim.Native.Nat.{Ordering, compare}
 use Rattle.dwellings.specs.declared.Dwelling.{Dwelling}
 use Rattle.kinds.specs.Meaning.{Meaning}
-use Rattle.kinds.specs.Layouts.{Layout, rank-on}
+use Rattle.kinds.specs.Layouts.{Layout, rank_on}
 
 pub data Direction : Type 0 where
-  same north north-east east south-east south south-west west north-west : Direction
+  same north north_east east south_east south south_west west north_west : Direction
 
 -- where the first dwelling lies, seen from the second
 abbrev pub Holds : Direction → Dwelling → Dwelling → Type 0
 Holds same u v = (u.east ≡ v.east) × (u.north ≡ v.north)
 Holds north u v = (u.east ≡ v.east) × (v.north < u.north)
-Holds north-east u v = (v.east < u.east) × (v.north < u.north)
+Holds north_east u v = (v.east < u.east) × (v.north < u.north)
 Holds east u v = (v.east < u.east) × (u.north ≡ v.north)
-Holds south-east u v = (v.east < u.east) × (u.north < v.north)
+Holds south_east u v = (v.east < u.east) × (u.north < v.north)
 Holds south u v = (u.east ≡ v.east) × (u.north < v.north)
-Holds south-west u v = (u.east < v.east) × (u.north < v.north)
+Holds south_west u v = (u.east < v.east) × (u.north < v.north)
 Holds west u v = (u.east < v.east) × (u.north ≡ v.north)
-Holds north-west u v = (u.east < v.east) × (v.north < u.north)
+Holds north_west u v = (u.east < v.east) × (v.north < u.north)
 
 -- the directions, in the order of their codes
 abbrev pub directions : List Direction
-directions = same ∷ north ∷ north-east ∷ east ∷ south-east ∷ south ∷ south-west ∷ west ∷ north-west ∷ []
+directions = same ∷ north ∷ north_east ∷ east ∷ south_east ∷ south ∷ south_west ∷ west ∷ north_west ∷ []
 
 abbrev pub coded : ℕ → Direction
 coded c = slice_index_or directions c same
@@ -53,24 +53,24 @@ dwellings = record {
 abbrev pub eastward : Direction → Ordering
 eastward same = Ordering.eq
 eastward north = Ordering.eq
-eastward north-east = Ordering.gt
+eastward north_east = Ordering.gt
 eastward east = Ordering.gt
-eastward south-east = Ordering.gt
+eastward south_east = Ordering.gt
 eastward south = Ordering.eq
-eastward south-west = Ordering.lt
+eastward south_west = Ordering.lt
 eastward west = Ordering.lt
-eastward north-west = Ordering.lt
+eastward north_west = Ordering.lt
 
 abbrev pub northward : Direction → Ordering
 northward same = Ordering.eq
 northward north = Ordering.gt
-northward north-east = Ordering.gt
+northward north_east = Ordering.gt
 northward east = Ordering.eq
-northward south-east = Ordering.lt
+northward south_east = Ordering.lt
 northward south = Ordering.lt
-northward south-west = Ordering.lt
+northward south_west = Ordering.lt
 northward west = Ordering.eq
-northward north-west = Ordering.gt
+northward north_west = Ordering.gt
 
 abbrev pub along : ℕ → Direction → Ordering
 along zero d = eastward d
@@ -82,8 +82,8 @@ compass = record { codes = 9; axes = 2; marks = 1; side = λ a c s t. along a (c
 
 -- its east number counts the items strictly west of it, its north number those strictly south
 abbrev pub dwelling : ℕ → List ℕ → ℕ → Dwelling
-dwelling n scenario i = record { east = rank-on compass n scenario i 0 0; north = rank-on compass n scenario i 1 0 }
+dwelling n scenario i = record { east = rank_on compass n scenario i 0 0; north = rank_on compass n scenario i 1 0 }
 
 -- eq n ne e se s sw w nw
-abbrev pub dwelling-words : List (List ℕ)
-dwelling-words = codes "eq" ∷ codes "n" ∷ codes "ne" ∷ codes "e" ∷ codes "se" ∷ codes "s" ∷ codes "sw" ∷ codes "w" ∷ codes "nw" ∷ []
+abbrev pub dwelling_words : List (List ℕ)
+dwelling_words = codes "eq" ∷ codes "n" ∷ codes "ne" ∷ codes "e" ∷ codes "se" ∷ codes "s" ∷ codes "sw" ∷ codes "w" ∷ codes "nw" ∷ []

@@ -5,9 +5,9 @@ ghost use Rattle.std.specs.Prelude.{◌≡◌, ℕ};
 ghost use Rattle.points.specs.Marks.{Draws};
 ghost use Rattle.points.specs.Sets.{has};
 ghost use Rattle.kinds.specs.Layouts.{fit};
-ghost use Rattle.dwellings.specs.Dwellings.{dwelling-words, dwellings, compass, dwelling};
+ghost use Rattle.dwellings.specs.Dwellings.{dwelling_words, dwellings, compass, dwelling};
 ghost use Rattle.kinds.proofs.Framed.{laws};
-ghost use Rattle.dwellings.specs.Charted.{charted, dwellings-realise};
+ghost use Rattle.dwellings.specs.Charted.{charted, dwellings_realise};
 ghost use Rattle.kinds.proofs.Framed;
 ghost use Rattle.kinds.proofs.Worded;
 
@@ -151,7 +151,7 @@ impl Kind for Dwellings {
 
     ghost composes = { Framed.composes dwellings compass charted };
 
-    ghost realises = { dwellings-realise };
+    ghost realises = { dwellings_realise };
 
     fn count() -> u8 {
         Self::CODES
@@ -194,9 +194,9 @@ impl Kind for Dwellings {
 impl Notation for Dwellings {
     ghost initial = { 68 };
 
-    ghost words = { dwelling-words };
+    ghost words = { dwelling_words };
 
-    ghost unambiguous = { Worded.unambiguous dwelling-words tt };
+    ghost unambiguous = { Worded.unambiguous dwelling_words tt };
 
     fn letter() -> u8 {
         b'D'

@@ -4,18 +4,18 @@ use Prim.Native.String.{String}
 use Rattle.std.proofs.lemmas.Bool.{cases_lt, ltb-true, eqb-true, eq-eqb, both_ways, cases_Bool}
 use Rattle.points.specs.Ranks.{Has}
 use Rattle.points.specs.Tests.{both, upto}
-use Rattle.points.proofs.Finite.{both_left, both_right, alike, alike-eq, true-from, upto-at}
+use Rattle.points.proofs.Finite.{both_left, both_right, alike, alike_eq, true_from, upto_at}
 use Rattle.kinds.specs.Meaning.{Meaning}
 use Rattle.kinds.specs.Layouts.{Layout, fit}
-use Rattle.moments.specs.Moments.{moment-words, moments, line}
-use Rattle.dwellings.specs.Dwellings.{dwelling-words, dwellings, compass}
-use Rattle.kinds.proofs.Framed.{Frame, composes, fit-beyond}
+use Rattle.moments.specs.Moments.{moment_words, moments, line}
+use Rattle.dwellings.specs.Dwellings.{dwelling_words, dwellings, compass}
+use Rattle.kinds.proofs.Framed.{Frame, composes, fit_beyond}
 use Rattle.moments.specs.Timed.{timed}
 use Rattle.dwellings.specs.Charted.{charted}
-use Rattle.spells.specs.Spells.{spells, timeline, spell-words}
+use Rattle.spells.specs.Spells.{spells, timeline, spell_words}
 use Rattle.spells.specs.Spelled.{spelled}
-use Rattle.figures.specs.Small.{moments-by-weight, moments-sworn-first, household, lone, sworn-pair}
-use Rattle.figures.proofs.Searched.{finished-after}
+use Rattle.figures.specs.Small.{moments_by_weight, moments_sworn_first, household, lone, sworn_pair}
+use Rattle.figures.proofs.Searched.{finished_after}
 use Rattle.figures.specs.Figures.{code, Composed, Figures}
 
 -- whether a number stands in the list, and whether all numbers of the list are below b
@@ -27,68 +27,68 @@ abbrev below : ℕ → List ℕ → Bool
 below b [] = true
 below b (x ∷ xs) = both (ltb x b) (below b xs)
 
-has-among : (e : ℕ) (xs : List ℕ) → among e xs ≡ true → Has e xs
-has-among e [] h = absurd (subst T (sym h) tt)
-has-among e (x ∷ xs) h = elim (cases_Bool (eqb e x)) [
+has_among : (e : ℕ) (xs : List ℕ) → among e xs ≡ true → Has e xs
+has_among e [] h = absurd (subst T (sym h) tt)
+has_among e (x ∷ xs) h = elim (cases_Bool (eqb e x)) [
   | inl p ↦ inl (eqb-true e x p)
-  | inr p ↦ inr (has-among e xs (subst (λ (b : Bool). cond b true (among e xs) ≡ true) p h))
+  | inr p ↦ inr (has_among e xs (subst (λ (b : Bool). cond b true (among e xs) ≡ true) p h))
 ]
 
-among-has : (e : ℕ) (xs : List ℕ) → Has e xs → among e xs ≡ true
-among-has e [] h = absurd h
-among-has e (x ∷ xs) (inl p) = ap (λ (b : Bool). cond b true (among e xs)) (eq-eqb e x p)
-among-has e (x ∷ xs) (inr h) = elim (cases_Bool (eqb e x)) [
+among_has : (e : ℕ) (xs : List ℕ) → Has e xs → among e xs ≡ true
+among_has e [] h = absurd h
+among_has e (x ∷ xs) (inl p) = ap (λ (b : Bool). cond b true (among e xs)) (eq-eqb e x p)
+among_has e (x ∷ xs) (inr h) = elim (cases_Bool (eqb e x)) [
   | inl p ↦ ap (λ (b : Bool). cond b true (among e xs)) p
-  | inr p ↦ subst (λ (b : Bool). cond b true (among e xs) ≡ true) (sym p) (among-has e xs h)
+  | inr p ↦ subst (λ (b : Bool). cond b true (among e xs) ≡ true) (sym p) (among_has e xs h)
 ]
 
-below-has : (b e : ℕ) (xs : List ℕ) → T (below b xs) → Has e xs → e < b
-below-has b e [] t h = absurd h
-below-has b e (x ∷ xs) t (inl p) = subst (λ (k : ℕ). k < b) (sym p) (ltb-true x b (true-from (ltb x b) (both_left (ltb x b) (below b xs) t)))
-below-has b e (x ∷ xs) t (inr h) = below-has b e xs (both_right (ltb x b) (below b xs) t) h
+below_has : (b e : ℕ) (xs : List ℕ) → T (below b xs) → Has e xs → e < b
+below_has b e [] t h = absurd h
+below_has b e (x ∷ xs) t (inl p) = subst (λ (k : ℕ). k < b) (sym p) (ltb-true x b (true_from (ltb x b) (both_left (ltb x b) (below b xs) t)))
+below_has b e (x ∷ xs) t (inr h) = below_has b e xs (both_right (ltb x b) (below b xs) t) h
 
 -- One proof for every line on compositions: the test of the layout over all codes, which the checker computes.
-abbrev right-line : Layout → ℕ → ℕ → List ℕ → Bool
-right-line l c d these = both (below l.codes these) (upto l.codes (λ e. alike (fit l c d e) (among e these)))
+abbrev right_line : Layout → ℕ → ℕ → List ℕ → Bool
+right_line l c d these = both (below l.codes these) (upto l.codes (λ e. alike (fit l c d e) (among e these)))
 
 pub composed : {V : Type 0} (m : Meaning V) (l : Layout) → Frame m l → (words : List (List ℕ)) (first second : String) (these : List String) →
-    T (right-line l (code words first) (code words second) (map (code words) these)) → Composed m words first second these
+    T (right_line l (code words first) (code words second) (map (code words) these)) → Composed m words first second these
 composed m l f words first second these test e =
     let c : ℕ = code words first in
     let d : ℕ = code words second in
     let es : List ℕ = map (code words) these in
     let small : T (below l.codes es) = both_left (below l.codes es) (upto l.codes (λ e. alike (fit l c d e) (among e es))) test in
     let same : (e : ℕ) → e < l.codes → fit l c d e ≡ among e es =
-    λ e h. alike-eq (fit l c d e) (among e es) (upto-at l.codes (λ e. alike (fit l c d e) (among e es)) (both_right (below l.codes es) (upto l.codes (λ e. alike (fit l c d e) (among e es))) test) e h) in (
+    λ e h. alike_eq (fit l c d e) (among e es) (upto_at l.codes (λ e. alike (fit l c d e) (among e es)) (both_right (below l.codes es) (upto l.codes (λ e. alike (fit l c d e) (among e es))) test) e h) in (
       λ h. elim (cases_lt e l.codes) [
-        | inl k ↦ has-among e es (sym (same e k) ∙ (composes m l f c d e).1 h)
-        | inr k ↦ absurd (both_ways (fit l c d e) (fit-beyond l c d e k) ((composes m l f c d e).1 h))
+        | inl k ↦ has_among e es (sym (same e k) ∙ (composes m l f c d e).1 h)
+        | inr k ↦ absurd (both_ways (fit l c d e) (fit_beyond l c d e k) ((composes m l f c d e).1 h))
       ],
-      λ h. (composes m l f c d e).0 (same e (below-has l.codes e es small h) ∙ among-has e es h),
+      λ h. (composes m l f c d e).0 (same e (below_has l.codes e es small h) ∙ among_has e es h),
     )
 
 pub figures : Figures
 figures = record {
-  before-before = composed moments line timed moment-words "<" "<" ("<" ∷ []) tt;
-  before-after = composed moments line timed moment-words "<" ">" ("=" ∷ "<" ∷ ">" ∷ []) tt;
-  precedes-precedes = composed spells timeline spelled spell-words "p" "p" ("p" ∷ []) tt;
-  meets-meets = composed spells timeline spelled spell-words "m" "m" ("p" ∷ []) tt;
-  overlaps-overlaps = composed spells timeline spelled spell-words "o" "o" ("p" ∷ "m" ∷ "o" ∷ []) tt;
-  starts-finishes = composed spells timeline spelled spell-words "s" "f" ("d" ∷ []) tt;
-  north-east = composed dwellings compass charted dwelling-words "n" "e" ("ne" ∷ []) tt;
-  north-south = composed dwellings compass charted dwelling-words "n" "s" ("eq" ∷ "n" ∷ "s" ∷ []) tt;
-  meeting-first = refl;
-  meeting-second = refl;
-  household-steps = finished-after moments-by-weight 3 household 18 tt;
-  household-cost = refl;
-  household-floor = refl;
-  household-values = refl;
-  household-first = refl;
-  household-second = refl;
-  lone-steps = finished-after moments-by-weight 1 lone 0 tt;
-  lone-cost = refl;
-  lone-values = refl;
-  sworn-steps = finished-after moments-sworn-first 2 sworn-pair 2 tt;
-  sworn-cost = refl;
-  sworn-values = refl;
+  before_before = composed moments line timed moment_words "<" "<" ("<" ∷ []) tt;
+  before_after = composed moments line timed moment_words "<" ">" ("=" ∷ "<" ∷ ">" ∷ []) tt;
+  precedes_precedes = composed spells timeline spelled spell_words "p" "p" ("p" ∷ []) tt;
+  meets_meets = composed spells timeline spelled spell_words "m" "m" ("p" ∷ []) tt;
+  overlaps_overlaps = composed spells timeline spelled spell_words "o" "o" ("p" ∷ "m" ∷ "o" ∷ []) tt;
+  starts_finishes = composed spells timeline spelled spell_words "s" "f" ("d" ∷ []) tt;
+  north_east = composed dwellings compass charted dwelling_words "n" "e" ("ne" ∷ []) tt;
+  north_south = composed dwellings compass charted dwelling_words "n" "s" ("eq" ∷ "n" ∷ "s" ∷ []) tt;
+  meeting_first = refl;
+  meeting_second = refl;
+  household_steps = finished_after moments_by_weight 3 household 18 tt;
+  household_cost = refl;
+  household_floor = refl;
+  household_values = refl;
+  household_first = refl;
+  household_second = refl;
+  lone_steps = finished_after moments_by_weight 1 lone 0 tt;
+  lone_cost = refl;
+  lone_values = refl;
+  sworn_steps = finished_after moments_sworn_first 2 sworn_pair 2 tt;
+  sworn_cost = refl;
+  sworn_values = refl;
 }

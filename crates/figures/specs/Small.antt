@@ -4,8 +4,8 @@ use Rattle.std.specs.List.{range_with_len}
 use Rattle.points.specs.Scenarios.{entry}
 use Rattle.kinds.specs.Layouts.{fit}
 use Rattle.moments.specs.Moments.{moments, line, moment}
-use Rattle.tallies.specs.Weights.{by-weight}
-use Rattle.tallies.specs.Sworn.{sworn-first, sworn-order}
+use Rattle.tallies.specs.Weights.{by_weight}
+use Rattle.tallies.specs.Sworn.{sworn_first, sworn_order}
 use Rattle.tallies.specs.declared.sworn_first.SwornCost.{SwornCost}
 use Rattle.rules.specs.declared.row.Row.{Row}
 use Rattle.rules.specs.Costs.{charge}
@@ -13,11 +13,11 @@ use Rattle.rules.specs.Steps.{Rules, Position, opening, finished, advance, taken
 use Rattle.rules.specs.Soundness.{rules}
 
 -- Moments by weight (M w), and moments sworn first (M r).
-abbrev pub moments-by-weight : Rules ℕ
-moments-by-weight = rules moments (fit line) by-weight nat_le
+abbrev pub moments_by_weight : Rules ℕ
+moments_by_weight = rules moments (fit line) by_weight nat_le
 
-abbrev pub moments-sworn-first : Rules SwornCost
-moments-sworn-first = rules moments (fit line) sworn-first sworn-order
+abbrev pub moments_sworn_first : Rules SwornCost
+moments_sworn_first = rules moments (fit line) sworn_first sworn_order
 
 -- The sets of one base relation, as bits: code 1 is < and code 2 is >.
 abbrev pub before : ℕ
@@ -40,8 +40,8 @@ abbrev pub lone : List Row
 lone = []
 
 -- The sworn pair: 1 < 2 with weight 900 by person 1, and 1 > 2 with weight 1 by person 2, sworn.
-abbrev pub sworn-pair : List Row
-sworn-pair =
+abbrev pub sworn_pair : List Row
+sworn_pair =
     record { low = 0; high = 1; set = before; weight = 900; person = 1; sworn = false; struck = false }
     ∷ record { low = 0; high = 1; set = after; weight = 1; person = 2; sworn = true; struck = false }
     ∷ []
@@ -59,7 +59,7 @@ abbrev pub charged : {C : Type 0} → Rules C → List Row → Position → ℕ 
 charged r rows s person = charge r.joining rows (entry s.incumbent) person
 
 -- The search of a sheet is finished after exactly k steps.
-pub record Finished-after {C : Type 0} (r : Rules C) (n : ℕ) (rows : List Row) (k : ℕ) : Type 0 where
+pub record FinishedAfter {C : Type 0} (r : Rules C) (n : ℕ) (rows : List Row) (k : ℕ) : Type 0 where
   -- asked for fewer steps, it is not finished
   pub unfinished : (asked : ℕ) → asked < k → finished r n (searched r n rows asked) ≡ false
   -- asked for k, it is

@@ -9,11 +9,11 @@ all_more xs i h p q =
     let d : is_digit (get_or xs i 0) ≡ true = grind (arith, nat_tests) in
     ap all_digits (drop_more xs i 0 h) ∙ ap (λ t. t && all_digits (drop (i + 1) xs)) d
 
-pub all-stop : (xs : List ℕ) (i : ℕ) → i < length xs → is_digit (get_or xs i 0) ≡ false → all_digits (drop i xs) ≡ false
-all-stop xs i h d = ap all_digits (drop_more xs i 0 h) ∙ ap (λ t. t && all_digits (drop (i + 1) xs)) d
+pub all_stop : (xs : List ℕ) (i : ℕ) → i < length xs → is_digit (get_or xs i 0) ≡ false → all_digits (drop i xs) ≡ false
+all_stop xs i h d = ap all_digits (drop_more xs i 0 h) ∙ ap (λ t. t && all_digits (drop (i + 1) xs)) d
 
-pub just-zero : (bs : List ℕ) → length bs ≡ 1 → get_or bs 0 0 ≡ 48 → number_in bs ≡ Ok 0
+pub just_zero : (bs : List ℕ) → length bs ≡ 1 → get_or bs 0 0 ≡ 48 → number_in bs ≡ Ok 0
 unfolding is_number
-just-zero [] h e = absurd (omega arith)
-just-zero (b ∷ []) h e = ap (λ x. number_in (x ∷ [])) e
-just-zero (b ∷ x ∷ bs) h e = absurd (omega arith)
+just_zero [] h e = absurd (omega arith)
+just_zero (b ∷ []) h e = ap (λ x. number_in (x ∷ [])) e
+just_zero (b ∷ x ∷ bs) h e = absurd (omega arith)

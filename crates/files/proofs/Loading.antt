@@ -15,32 +15,32 @@ use Rattle.files.specs.Loads.{body, body_fault, rows_in}
 use Rattle.files.specs.Words.{Spelling}
 
 -- the line itself is unfit
-pub line-unfit : (a b : Option LineFault) (e : Entry) (f : LineFault) → Err f ≡ answered a e → Err f ≡ answered (first (a ∷ b ∷ [])) (tt {0})
-line-unfit (Some g) b e f h = cc
-line-unfit None b e f h = cc
+pub line_unfit : (a b : Option LineFault) (e : Entry) (f : LineFault) → Err f ≡ answered a e → Err f ≡ answered (first (a ∷ b ∷ [])) (tt {0})
+line_unfit (Some g) b e f h = cc
+line_unfit None b e f h = cc
 
 refused : (g : Fault → ℕ) (o : Option Fault) (d : At ℕ Fault) → Err d ≡ refused_at g o → Err (Draft d.place d.fault) ≡ answered (first (refused_line g o ∷ [])) (tt {0})
 refused g (Some f) d h = let s : d ≡ record { place = g f; fault = f } = cc in ap (λ x. Err (Draft x.place x.fault)) s
 refused g None d h = cc
 
 -- the line is fit, and the draft refuses its entry
-pub entry-refused : (a : Option LineFault) (g : Entry → Fault → ℕ) (k : Entry → Option Fault) (x e : Entry) (d : At ℕ Fault) → Ok x ≡ answered a e → Err d ≡ refused_at (g x) (k x) → Err (Draft d.place d.fault) ≡ answered (first (a ∷ refused_line (g e) (k e) ∷ [])) (tt {0})
-entry-refused (Some f) g k x e d h r = cc
-entry-refused None g k x e d h r = let s : x ≡ e = cc in refused (g x) (k x) d r ∙ ap (λ y. answered (first (refused_line (g y) (k y) ∷ [])) (tt {0})) s
+pub entry_refused : (a : Option LineFault) (g : Entry → Fault → ℕ) (k : Entry → Option Fault) (x e : Entry) (d : At ℕ Fault) → Ok x ≡ answered a e → Err d ≡ refused_at (g x) (k x) → Err (Draft d.place d.fault) ≡ answered (first (a ∷ refused_line (g e) (k e) ∷ [])) (tt {0})
+entry_refused (Some f) g k x e d h r = cc
+entry_refused None g k x e d h r = let s : x ≡ e = cc in refused (g x) (k x) d r ∙ ap (λ y. answered (first (refused_line (g y) (k y) ∷ [])) (tt {0})) s
 
 accepted : (g : Fault → ℕ) (o : Option Fault) → Ok tt ≡ refused_at g o → Ok (tt {0}) ≡ answered (first (refused_line g o ∷ [])) (tt {0})
 accepted g (Some f) h = cc
 accepted g None h = refl
 
 -- and it takes its entry
-pub entry-accepted : (a : Option LineFault) (g : Entry → Fault → ℕ) (k : Entry → Option Fault) (x e : Entry) → Ok x ≡ answered a e → Ok tt ≡ refused_at (g x) (k x) → Ok (tt {0}) ≡ answered (first (a ∷ refused_line (g e) (k e) ∷ [])) (tt {0})
-entry-accepted (Some f) g k x e h r = cc
-entry-accepted None g k x e h r = let s : x ≡ e = cc in accepted (g x) (k x) r ∙ ap (λ y. answered (first (refused_line (g y) (k y) ∷ [])) (tt {0})) s
+pub entry_accepted : (a : Option LineFault) (g : Entry → Fault → ℕ) (k : Entry → Option Fault) (x e : Entry) → Ok x ≡ answered a e → Ok tt ≡ refused_at (g x) (k x) → Ok (tt {0}) ≡ answered (first (a ∷ refused_line (g e) (k e) ∷ [])) (tt {0})
+entry_accepted (Some f) g k x e h r = cc
+entry_accepted None g k x e h r = let s : x ≡ e = cc in accepted (g x) (k x) r ∙ ap (λ y. answered (first (refused_line (g y) (k y) ∷ [])) (tt {0})) s
 
 -- a fit line gives its entry
-pub entry-same : (a : Option LineFault) (x e : Entry) → Ok x ≡ answered a e → x ≡ e
-entry-same (Some f) x e h = cc
-entry-same None x e h = cc
+pub entry_same : (a : Option LineFault) (x e : Entry) → Ok x ≡ answered a e → x ≡ e
+entry_same (Some f) x e h = cc
+entry_same None x e h = cc
 
 -- from place q, with ms still to come and the rows now entered, a load goes as from p with ls
 pub record Loads (s : Spelling) (items : ℕ) (p : Place) (ls : List (List ℕ)) (rows : List Row) (q : Place) (ms : List (List ℕ)) (now : List Row) : Type 0 where
@@ -66,8 +66,8 @@ body_more l ns ms h e = ap (λ k. take k ms) (before_more l ns ms h e) ∙ ap (t
 
 module _ (s : Spelling) (items : ℕ) (p : Place) (ls : List (List ℕ)) (rows : List Row) (q : Place) (ms ns : List (List ℕ)) (now : List Row) (l : List ℕ)
     (g : Loads s items p ls rows q ms now) (h : is_head l ≡ false) (e : ms ≡ l ∷ ns) where
-  pub one-entered : (new : List Row) (q' : Place) → Ok (tt {0}) ≡ answered (line_fault s items now l) (tt {0}) → new ≡ now ++ (row_in s l ∷ []) → q' ≡ onward q → Loads s items p ls rows q' ns new
-  one-entered new q' good add on = record {
+  pub one_entered : (new : List Row) (q' : Place) → Ok (tt {0}) ≡ answered (line_fault s items now l) (tt {0}) → new ≡ now ++ (row_in s l ∷ []) → q' ≡ onward q → Loads s items p ls rows q' ns new
+  one_entered new q' good add on = record {
     fault = ap (λ x. body_fault s items x new (body ns)) on ∙ ap (λ x. body_fault s items (onward q) x (body ns)) add
         ∙ sym (ap (λ o. elim o [ Some f ↦ Some (record { place = onward q; fault = f }) | None ↦ body_fault s items (onward q) (now ++ (row_in s l ∷ [])) (body ns) ]) (fit (line_fault s items now l) good))
         ∙ sym (ap (body_fault s items q now) (body_more l ns ms h e)) ∙ g.fault;
@@ -78,8 +78,8 @@ module _ (s : Spelling) (items : ℕ) (p : Place) (ls : List (List ℕ)) (rows :
     sheet = ap (λ x. x.sheet) on ∙ g.sheet;
   }
 
-  pub one-refused : (f : LineFault) → Err f ≡ answered (line_fault s items now l) (tt {0}) → body_fault s items p rows (body ls) ≡ Some (record { place = onward q; fault = f })
-  one-refused f bad =
+  pub one_refused : (f : LineFault) → Err f ≡ answered (line_fault s items now l) (tt {0}) → body_fault s items p rows (body ls) ≡ Some (record { place = onward q; fault = f })
+  one_refused f bad =
       sym g.fault ∙ ap (body_fault s items q now) (body_more l ns ms h e)
       ∙ ap (λ o. elim o [ Some f ↦ Some (record { place = onward q; fault = f }) | None ↦ body_fault s items (onward q) (now ++ (row_in s l ∷ [])) (body ns) ]) (unfit (line_fault s items now l) f bad)
 
@@ -89,19 +89,19 @@ module _ (s : Spelling) (items : ℕ) (p : Place) (ls : List (List ℕ)) (rows :
   none_left : body ms ≡ []
   none_left = ap (λ k. take k ms) e
 
-  pub body-fit : Ok (tt {0}) ≡ answered (body_fault s items p rows (body ls)) (tt {0})
-  body-fit = ap (λ b. answered (body_fault s items q now b) (tt {0})) (sym none_left) ∙ ap (λ o. answered o (tt {0})) g.fault
+  pub body_fit : Ok (tt {0}) ≡ answered (body_fault s items p rows (body ls)) (tt {0})
+  body_fit = ap (λ b. answered (body_fault s items q now b) (tt {0})) (sym none_left) ∙ ap (λ o. answered o (tt {0})) g.fault
 
-  pub body-rows : now ≡ rows ++ rows_in s (body ls)
-  body-rows = sym (append-nil now) ∙ ap (λ b. now ++ rows_in s b) (sym none_left) ∙ g.all
+  pub body_rows : now ≡ rows ++ rows_in s (body ls)
+  body_rows = sym (append-nil now) ∙ ap (λ b. now ++ rows_in s b) (sym none_left) ∙ g.all
 
-  pub body-rest : ms ≡ drop (before ls) ls
-  body-rest = ap (λ k. drop k ms) (sym e) ∙ g.rest
+  pub body_rest : ms ≡ drop (before ls) ls
+  body_rest = ap (λ k. drop k ms) (sym e) ∙ g.rest
 
-pub placed-ok : {T : Type 0} (p : Place) (x : T) (r : Result T LineFault) → Ok x ≡ placed_at p r → r ≡ Ok x
-placed-ok p x (Ok y) e = cc
-placed-ok p x (Err g) e = cc
+pub placed_ok : {T : Type 0} (p : Place) (x : T) (r : Result T LineFault) → Ok x ≡ placed_at p r → r ≡ Ok x
+placed_ok p x (Ok y) e = cc
+placed_ok p x (Err g) e = cc
 
-pub placed-err : {T : Type 0} (p : Place) (f : At Place LineFault) (r : Result T LineFault) → Err f ≡ placed_at p r → (r ≡ Err f.fault) × (f.place ≡ p)
-placed-err p f (Ok y) e = let z : ◌≡◌ {A = ℕ} 0 1 = cc in absurd (omega arith)
-placed-err p f (Err g) e = let s : f ≡ record { place = p; fault = g } = cc in (sym (ap (λ x. Err x.fault) s), ap (λ x. x.place) s)
+pub placed_err : {T : Type 0} (p : Place) (f : At Place LineFault) (r : Result T LineFault) → Err f ≡ placed_at p r → (r ≡ Err f.fault) × (f.place ≡ p)
+placed_err p f (Ok y) e = let z : ◌≡◌ {A = ℕ} 0 1 = cc in absurd (omega arith)
+placed_err p f (Err g) e = let s : f ≡ record { place = p; fault = g } = cc in (sym (ap (λ x. Err x.fault) s), ap (λ x. x.place) s)

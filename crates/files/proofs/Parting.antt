@@ -12,77 +12,77 @@ abbrev pub Whole : ℕ → List ℕ → List ℕ → Type 0
 Whole c text front = Lacks c text × (text ≡ front)
 
 -- the first n bytes lack c
-pub lacks-front : (c : ℕ) (bs : List ℕ) (n : ℕ) → n ≤ length bs → ((k : ℕ) → k < n → get_or bs k 0 ≡ c → ⊥) → Lacks c (take n bs)
-lacks-front c bs zero h l = tt
-lacks-front c [] (suc n) h l = tt
-lacks-front c (b ∷ bs) (suc n) h l = (l 0 (omega arith), lacks-front c bs n (omega arith) (λ k lt. l (suc k) (omega arith)))
+pub lacks_front : (c : ℕ) (bs : List ℕ) (n : ℕ) → n ≤ length bs → ((k : ℕ) → k < n → get_or bs k 0 ≡ c → ⊥) → Lacks c (take n bs)
+lacks_front c bs zero h l = tt
+lacks_front c [] (suc n) h l = tt
+lacks_front c (b ∷ bs) (suc n) h l = (l 0 (omega arith), lacks_front c bs n (omega arith) (λ k lt. l (suc k) (omega arith)))
 
-pub lacks-all : (c : ℕ) (bs : List ℕ) (n : ℕ) → length bs ≤ n → ((k : ℕ) → k < n → get_or bs k 0 ≡ c → ⊥) → Lacks c bs
-lacks-all c [] n h l = tt
-lacks-all c (b ∷ bs) n h l = (l 0 (omega arith), lacks-all c bs (length bs) (omega arith) (λ k lt. l (suc k) (omega arith)))
+pub lacks_all : (c : ℕ) (bs : List ℕ) (n : ℕ) → length bs ≤ n → ((k : ℕ) → k < n → get_or bs k 0 ≡ c → ⊥) → Lacks c bs
+lacks_all c [] n h l = tt
+lacks_all c (b ∷ bs) n h l = (l 0 (omega arith), lacks_all c bs (length bs) (omega arith) (λ k lt. l (suc k) (omega arith)))
 
 -- cut at the place n of the first c
 pub cut_at : (c : ℕ) (bs : List ℕ) (n : ℕ) → n < length bs → ((k : ℕ) → k < n → get_or bs k 0 ≡ c → ⊥) → get_or bs n 0 ≡ c → Cut c bs (take n bs) (drop (n + 1) bs)
 cut_at c bs n h l e = (
-  lacks-front c bs n (omega arith) l,
+  lacks_front c bs n (omega arith) l,
   sym (take-append-drop n bs)
       ∙ ap (λ r. take n bs ++ r) (drop_more bs n 0 h ∙ ap (λ b. b ∷ drop (n + 1) bs) e),
 )
 
 -- f parts a text at the bytes c
 module _ (c : ℕ) (f : List ℕ → List (List ℕ)) (step : (b : ℕ) (bs : List ℕ) → f (b ∷ bs) ≡ cond (eqb b c) ([] ∷ f bs) (on_first b (f bs))) where
-  cut-first : (p rest : List ℕ) → Lacks c p → f (p ++ (c ∷ rest)) ≡ p ∷ f rest
-  cut-first [] rest l = step c rest ∙ cond-true _ _ _ (eq-eqb c c refl)
-  cut-first (b ∷ bs) rest l =
-      step b (bs ++ (c ∷ rest)) ∙ cond-false _ _ _ (ne_eqb b c l.0) ∙ ap (on_first b) (cut-first bs rest l.1)
+  cut_first : (p rest : List ℕ) → Lacks c p → f (p ++ (c ∷ rest)) ≡ p ∷ f rest
+  cut_first [] rest l = step c rest ∙ cond-true _ _ _ (eq-eqb c c refl)
+  cut_first (b ∷ bs) rest l =
+      step b (bs ++ (c ∷ rest)) ∙ cond-false _ _ _ (ne_eqb b c l.0) ∙ ap (on_first b) (cut_first bs rest l.1)
 
-pub parted-cut : (c : ℕ) (text p rest : List ℕ) → Cut c text p rest → parted c text ≡ p ∷ parted c rest
-parted-cut c text p rest h = ap (parted c) h.1 ∙ cut-first c (parted c) (λ b bs. refl) p rest h.0
+pub parted_cut : (c : ℕ) (text p rest : List ℕ) → Cut c text p rest → parted c text ≡ p ∷ parted c rest
+parted_cut c text p rest h = ap (parted c) h.1 ∙ cut_first c (parted c) (λ b bs. refl) p rest h.0
 
 pub lines_cut : (text p rest : List ℕ) → Cut 10 text p rest → lines text ≡ p ∷ lines rest
-lines_cut text p rest h = ap lines h.1 ∙ cut-first 10 lines (λ b bs. refl) p rest h.0
+lines_cut text p rest h = ap lines h.1 ∙ cut_first 10 lines (λ b bs. refl) p rest h.0
 
-parted-lacks : (c : ℕ) (bs : List ℕ) → Lacks c bs → parted c bs ≡ bs ∷ []
-parted-lacks c [] l = refl
-parted-lacks c (b ∷ bs) l = cond-false _ _ _ (ne_eqb b c l.0) ∙ ap (on_first b) (parted-lacks c bs l.1)
+parted_lacks : (c : ℕ) (bs : List ℕ) → Lacks c bs → parted c bs ≡ bs ∷ []
+parted_lacks c [] l = refl
+parted_lacks c (b ∷ bs) l = cond-false _ _ _ (ne_eqb b c l.0) ∙ ap (on_first b) (parted_lacks c bs l.1)
 
-pub parted-whole : (c : ℕ) (text p : List ℕ) → Whole c text p → parted c text ≡ p ∷ []
-parted-whole c text p h = parted-lacks c text h.0 ∙ ap (λ q. q ∷ []) h.1
+pub parted_whole : (c : ℕ) (text p : List ℕ) → Whole c text p → parted c text ≡ p ∷ []
+parted_whole c text p h = parted_lacks c text h.0 ∙ ap (λ q. q ∷ []) h.1
 
-lines-lacks : (b : ℕ) (bs : List ℕ) → Lacks 10 (b ∷ bs) → lines (b ∷ bs) ≡ (b ∷ bs) ∷ []
-lines-lacks b [] l = cond-false _ _ _ (ne_eqb b 10 l.0)
-lines-lacks b (b' ∷ bs) l = cond-false _ _ _ (ne_eqb b 10 l.0) ∙ ap (on_first b) (lines-lacks b' bs l.1)
+lines_lacks : (b : ℕ) (bs : List ℕ) → Lacks 10 (b ∷ bs) → lines (b ∷ bs) ≡ (b ∷ bs) ∷ []
+lines_lacks b [] l = cond-false _ _ _ (ne_eqb b 10 l.0)
+lines_lacks b (b' ∷ bs) l = cond-false _ _ _ (ne_eqb b 10 l.0) ∙ ap (on_first b) (lines_lacks b' bs l.1)
 
-pub lines-whole : (text p : List ℕ) → 0 < length text → Whole 10 text p → lines text ≡ p ∷ []
-lines-whole [] p h w = absurd (omega arith)
-lines-whole (b ∷ bs) p h w = lines-lacks b bs w.0 ∙ ap (λ q. q ∷ []) w.1
+pub lines_whole : (text p : List ℕ) → 0 < length text → Whole 10 text p → lines text ≡ p ∷ []
+lines_whole [] p h w = absurd (omega arith)
+lines_whole (b ∷ bs) p h w = lines_lacks b bs w.0 ∙ ap (λ q. q ∷ []) w.1
 
 -- as the checker reads `&text[0..n]` and `&text[n + 1..]`
-pub cut-at-taken : (c : ℕ) (bs : List ℕ) (n : ℕ) → n < length bs → ((k : ℕ) → k < n → get_or bs k 0 ≡ c → ⊥) → get_or bs n 0 ≡ c → Cut c bs (take (n - 0) bs) (take (length bs - (n + 1)) (drop (n + 1) bs))
-cut-at-taken c bs n h l e = rw (sub-zero, take_rest bs (n + 1)) (cut_at c bs n h l e)
+pub cut_at_taken : (c : ℕ) (bs : List ℕ) (n : ℕ) → n < length bs → ((k : ℕ) → k < n → get_or bs k 0 ≡ c → ⊥) → get_or bs n 0 ≡ c → Cut c bs (take (n - 0) bs) (take (length bs - (n + 1)) (drop (n + 1) bs))
+cut_at_taken c bs n h l e = rw (sub-zero, take_rest bs (n + 1)) (cut_at c bs n h l e)
 
 -- a cursor that gives its next part
-pub part-given : (c : ℕ) (text p : List ℕ) (rest : Option (Bor (List ℕ))) → Split c text p rest → parted c text ≡ p ∷ left (record { by = c; rest = rest })
-part-given c text p (Some r) h = parted-cut c text p r.now h
-part-given c text p None h = parted-whole c text p h
+pub part_given : (c : ℕ) (text p : List ℕ) (rest : Option (Bor (List ℕ))) → Split c text p rest → parted c text ≡ p ∷ left (record { by = c; rest = rest })
+part_given c text p (Some r) h = parted_cut c text p r.now h
+part_given c text p None h = parted_whole c text p h
 
 pub lines_none : (text : List ℕ) → length text ≡ 0 → lines text ≡ []
 lines_none [] e = refl
 lines_none (b ∷ bs) e = absurd (omega arith)
 
-pub line-some : (text p : List ℕ) (o : Option (Bor (List ℕ))) (r : Bor (List ℕ)) → Split 10 text p o → o ≡ Some r → lines text ≡ p ∷ lines r.now
-line-some text p o r h e = lines_cut text p r.now (subst (Split 10 text p) e h)
+pub line_some : (text p : List ℕ) (o : Option (Bor (List ℕ))) (r : Bor (List ℕ)) → Split 10 text p o → o ≡ Some r → lines text ≡ p ∷ lines r.now
+line_some text p o r h e = lines_cut text p r.now (subst (Split 10 text p) e h)
 
-pub line-last : (text p : List ℕ) (o : Option (Bor (List ℕ))) → Split 10 text p o → o ≡ None → (length text ≡ 0 → ⊥) → lines text ≡ p ∷ []
-line-last text p o h e some = lines-whole text p (omega arith) (subst (Split 10 text p) e h)
+pub line_last : (text p : List ℕ) (o : Option (Bor (List ℕ))) → Split 10 text p o → o ≡ None → (length text ≡ 0 → ⊥) → lines text ≡ p ∷ []
+line_last text p o h e some = lines_whole text p (omega arith) (subst (Split 10 text p) e h)
 
-length-on_first : (b : ℕ) (ls : List (List ℕ)) → length (on_first b ls) ≤ suc (length ls)
-length-on_first b [] = omega arith
-length-on_first b (l ∷ ls) = omega arith
+length_on_first : (b : ℕ) (ls : List (List ℕ)) → length (on_first b ls) ≤ suc (length ls)
+length_on_first b [] = omega arith
+length_on_first b (l ∷ ls) = omega arith
 
 -- a line has a byte, its line feed or another
-pub lines-le : (bs : List ℕ) → length (lines bs) ≤ length bs
-lines-le [] = omega arith
-lines-le (b ∷ bs) =
+pub lines_le : (bs : List ℕ) → length (lines bs) ≤ length bs
+lines_le [] = omega arith
+lines_le (b ∷ bs) =
     cond_both (eqb b 10) ([] ∷ lines bs) (on_first b (lines bs)) (λ ls. length ls ≤ suc (length bs))
-    (λ e. omega (arith, lines-le bs)) (λ e. omega (arith, lines-le bs, length-on_first b (lines bs)))
+    (λ e. omega (arith, lines_le bs)) (λ e. omega (arith, lines_le bs, length_on_first b (lines bs)))

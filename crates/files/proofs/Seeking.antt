@@ -21,14 +21,14 @@ pub record Same (p : Place) (ls : List (List ℕ)) (q : Place) (ms : List (List 
   pub end : q.line + length ms ≡ p.line + length ls
   pub sheet : q.sheet ≡ p.sheet
 
-pub at-end : (p : Place) → next_head p [] ≡ Ok None
-at-end p = grind (arith, nat_tests)
+pub at_end : (p : Place) → next_head p [] ≡ Ok None
+at_end p = grind (arith, nat_tests)
 
 pub at_head : (p : Place) (l : List ℕ) (ls : List (List ℕ)) → is_head l ≡ true → next_head p (l ∷ ls) ≡ located (head_place p 0) (head_in l)
 at_head p l ls h = grind (arith, nat_tests)
 
-pub at-stray : (p : Place) (l : List ℕ) (ls : List (List ℕ)) → is_head l ≡ false → p.sheet ≡ 0 → next_head p (l ∷ ls) ≡ Err (record { place = record { sheet = 0; line = p.line + 1 }; fault = stray_fault l })
-at-stray p l ls h z = grind (arith, nat_tests)
+pub at_stray : (p : Place) (l : List ℕ) (ls : List (List ℕ)) → is_head l ≡ false → p.sheet ≡ 0 → next_head p (l ∷ ls) ≡ Err (record { place = record { sheet = 0; line = p.line + 1 }; fault = stray_fault l })
+at_stray p l ls h z = grind (arith, nat_tests)
 
 -- the answer where the head is known to stand k lines on
 abbrev at : Place → List (List ℕ) → ℕ → Result (Option Head) SheetFault
@@ -74,8 +74,8 @@ passed p q ls ms ns l s e h z =
 
 -- a head is come to
 module _ (p q : Place) (ls ms ns : List (List ℕ)) (l : List ℕ) (s : Same p ls q ms) (e : ms ≡ l ∷ ns) (h : is_head l ≡ true) where
-  pub head-answer : located (record { sheet = q.sheet + 1; line = q.line + 1 }) (head_in l) ≡ next_head p ls
-  head-answer =
+  pub head_answer : located (record { sheet = q.sheet + 1; line = q.line + 1 }) (head_in l) ≡ next_head p ls
+  head_answer =
       let z : q.line + 1 ≡ q.line + 0 + 1 = omega arith in
       ap (λ n. located (record { sheet = q.sheet + 1; line = n }) (head_in l)) z
       ∙ sym (at_head q l ns h) ∙ ap (next_head q) (sym e) ∙ s.answer
@@ -83,32 +83,32 @@ module _ (p q : Place) (ls ms ns : List (List ℕ)) (l : List ℕ) (s : Same p l
   none_before : before ms ≡ 0
   none_before = ap before e ∙ ap (λ t. cond t 0 (suc (before ns))) h
 
-  pub head-place : record { sheet = q.sheet + 1; line = q.line + 1 } ≡ head_place p (before ls)
-  head-place =
+  pub place_of_head : record { sheet = q.sheet + 1; line = q.line + 1 } ≡ head_place p (before ls)
+  place_of_head =
       let n : q.line + 1 ≡ p.line + before ls + 1 = omega (arith, none_before, s.head) in
       ap (λ x. record { sheet = x + 1; line = q.line + 1 }) s.sheet ∙ ap (λ x. record { sheet = p.sheet + 1; line = x }) n
 
-  pub head-rest : ns ≡ drop (before ls + 1) ls
-  head-rest = ap (drop 1) (sym e) ∙ ap (λ k. drop (k + 1) ms) (sym none_before) ∙ s.rest
+  pub head_rest : ns ≡ drop (before ls + 1) ls
+  head_rest = ap (drop 1) (sym e) ∙ ap (λ k. drop (k + 1) ms) (sym none_before) ∙ s.rest
 
-pub is-head : (l : List ℕ) → class_of l ≡ HeadLine → is_head l ≡ true
-is-head l e = grind (arith, nat_tests)
+pub head_known : (l : List ℕ) → class_of l ≡ HeadLine → is_head l ≡ true
+head_known l e = grind (arith, nat_tests)
 
-pub no-head : (l : List ℕ) → class_of l ≡ StatementLine → is_head l ≡ false
-no-head l e = grind (arith, nat_tests)
+pub no_head : (l : List ℕ) → class_of l ≡ StatementLine → is_head l ≡ false
+no_head l e = grind (arith, nat_tests)
 
 -- a head that was read, and one that is unfit
-pub located-ok : (p : Place) (h : Head) (r : Result Head LineFault) → Ok h ≡ placed_at p r → Ok (Some h) ≡ located p r
-located-ok p h (Ok g) e = cc
-located-ok p h (Err f) e = cc
+pub located_ok : (p : Place) (h : Head) (r : Result Head LineFault) → Ok h ≡ placed_at p r → Ok (Some h) ≡ located p r
+located_ok p h (Ok g) e = cc
+located_ok p h (Err f) e = cc
 
-pub located-err : (p : Place) (f : At Place LineFault) (r : Result Head LineFault) → Err f ≡ placed_at p r → Err (record { place = f.place; fault = f.fault }) ≡ located p r
-located-err p f (Ok g) e = cc
-located-err p f (Err g) e = cc
+pub located_err : (p : Place) (f : At Place LineFault) (r : Result Head LineFault) → Err f ≡ placed_at p r → Err (record { place = f.place; fault = f.fault }) ≡ located p r
+located_err p f (Ok g) e = cc
+located_err p f (Err g) e = cc
 
 -- a sheet has begun
-pub some-sheet : (p : Place) → state_of p ≡ InSheet → p.sheet ≡ 0 → ⊥
-some-sheet p e z = grind (arith, nat_tests)
+pub some_sheet : (p : Place) → state_of p ≡ InSheet → p.sheet ≡ 0 → ⊥
+some_sheet p e z = grind (arith, nat_tests)
 
-pub no-sheet : (p : Place) → state_of p ≡ NoSheet → p.sheet ≡ 0
-no-sheet p e = grind (arith, nat_tests)
+pub no_sheet : (p : Place) → state_of p ≡ NoSheet → p.sheet ≡ 0
+no_sheet p e = grind (arith, nat_tests)

@@ -22,22 +22,22 @@ some_words code (b ∷ bs) e = refl
 
 -- A set that is read from words has only codes of the kind.
 module _ (codes : ℕ) where
-  with-code : (set : ℕ) (o : Option ℕ) → set < 2 ^ codes → elim (below codes o) [ Some c ↦ bit_or set (2 ^ c) | None ↦ set ] < 2 ^ codes
-  with-code set None h = h
-  with-code set (Some c) h =
+  with_code : (set : ℕ) (o : Option ℕ) → set < 2 ^ codes → elim (below codes o) [ Some c ↦ bit_or set (2 ^ c) | None ↦ set ] < 2 ^ codes
+  with_code set None h = h
+  with_code set (Some c) h =
       ⊎_elim
       (λ y. subst (λ b. elim (cond b (Some c) None) [ Some d ↦ bit_or set (2 ^ d) | None ↦ set ] < 2 ^ codes) (sym y) (or_lt codes set (2 ^ c) h (pow_below c codes (ltb-true c codes y))))
       (λ n. subst (λ b. elim (cond b (Some c) None) [ Some d ↦ bit_or set (2 ^ d) | None ↦ set ] < 2 ^ codes) (sym n) h)
       (cases_Bool (ltb c codes))
 
-  with-word : (set : ℕ) (b : Bool) (o : Option ℕ) → set < 2 ^ codes → elim (cond b None (below codes o)) [ Some c ↦ bit_or set (2 ^ c) | None ↦ set ] < 2 ^ codes
-  with-word set true o h = h
-  with-word set false o h = with-code set o h
+  with_word : (set : ℕ) (b : Bool) (o : Option ℕ) → set < 2 ^ codes → elim (cond b None (below codes o)) [ Some c ↦ bit_or set (2 ^ c) | None ↦ set ] < 2 ^ codes
+  with_word set true o h = h
+  with_word set false o h = with_code set o h
 
-  with-fits : (names : List (List ℕ)) (set : ℕ) (ws : List (List ℕ)) → set < 2 ^ codes → with_words (code_of codes names) set ws < 2 ^ codes
-  with-fits names set [] h = h
-  with-fits names set (w ∷ ws) h = with-fits names (elim (code_of codes names w) [ Some c ↦ bit_or set (2 ^ c) | None ↦ set ]) ws (with-word set (eqb (length w) 0) (read names w) h)
+  with_fits : (names : List (List ℕ)) (set : ℕ) (ws : List (List ℕ)) → set < 2 ^ codes → with_words (code_of codes names) set ws < 2 ^ codes
+  with_fits names set [] h = h
+  with_fits names set (w ∷ ws) h = with_fits names (elim (code_of codes names w) [ Some c ↦ bit_or set (2 ^ c) | None ↦ set ]) ws (with_word set (eqb (length w) 0) (read names w) h)
 
-pub sets-fit : SetsFit
+pub sets_fit : SetsFit
 unfolding set_of
-sets-fit codes names field = with-fits codes names 0 (words field) (pow_pos codes)
+sets_fit codes names field = with_fits codes names 0 (words field) (pow_pos codes)

@@ -13,74 +13,74 @@ use Rattle.files.specs.Views.{View, lines_of, head_answer, head_move, head_after
 use Rattle.files.specs.Standing.{heads, Stands}
 
 -- by whether a line is a head
-heads-yes : (l : List ℕ) (ls : List (List ℕ)) → is_head l ≡ true → heads (l ∷ ls) ≡ suc (heads ls)
-heads-yes l ls h = ap (λ t. cond t (suc (heads ls)) (heads ls)) h
+heads_yes : (l : List ℕ) (ls : List (List ℕ)) → is_head l ≡ true → heads (l ∷ ls) ≡ suc (heads ls)
+heads_yes l ls h = ap (λ t. cond t (suc (heads ls)) (heads ls)) h
 
-heads-no : (l : List ℕ) (ls : List (List ℕ)) → is_head l ≡ false → heads (l ∷ ls) ≡ heads ls
-heads-no l ls h = ap (λ t. cond t (suc (heads ls)) (heads ls)) h
+heads_no : (l : List ℕ) (ls : List (List ℕ)) → is_head l ≡ false → heads (l ∷ ls) ≡ heads ls
+heads_no l ls h = ap (λ t. cond t (suc (heads ls)) (heads ls)) h
 
-before-yes : (l : List ℕ) (ls : List (List ℕ)) → is_head l ≡ true → before (l ∷ ls) ≡ 0
-before-yes l ls h = ap (λ t. cond t 0 (suc (before ls))) h
+before_yes : (l : List ℕ) (ls : List (List ℕ)) → is_head l ≡ true → before (l ∷ ls) ≡ 0
+before_yes l ls h = ap (λ t. cond t 0 (suc (before ls))) h
 
-before-no : (l : List ℕ) (ls : List (List ℕ)) → is_head l ≡ false → before (l ∷ ls) ≡ suc (before ls)
-before-no l ls h = ap (λ t. cond t 0 (suc (before ls))) h
+before_no : (l : List ℕ) (ls : List (List ℕ)) → is_head l ≡ false → before (l ∷ ls) ≡ suc (before ls)
+before_no l ls h = ap (λ t. cond t 0 (suc (before ls))) h
 
-heads-append : (xs ys : List (List ℕ)) → heads (xs ++ ys) ≡ heads xs + heads ys
-heads-append [] ys = sym (zero-add (heads ys))
-heads-append (l ∷ ls) ys =
+heads_append : (xs ys : List (List ℕ)) → heads (xs ++ ys) ≡ heads xs + heads ys
+heads_append [] ys = sym (zero-add (heads ys))
+heads_append (l ∷ ls) ys =
     ⊎_elim
-    (λ h. omega (arith, heads-yes l ls h, heads-yes l (ls ++ ys) h, heads-append ls ys))
-    (λ h. omega (arith, heads-no l ls h, heads-no l (ls ++ ys) h, heads-append ls ys))
+    (λ h. omega (arith, heads_yes l ls h, heads_yes l (ls ++ ys) h, heads_append ls ys))
+    (λ h. omega (arith, heads_no l ls h, heads_no l (ls ++ ys) h, heads_append ls ys))
     (cases_Bool (is_head l))
 
 -- n lines, and k after them
-heads-more : (n k : ℕ) (ls : List (List ℕ)) → heads (take n ls) + heads (take k (drop n ls)) ≡ heads (take (n + k) ls)
-heads-more n k ls = sym (ap heads (take-add n k ls) ∙ heads-append (take n ls) (take k (drop n ls)))
+heads_more : (n k : ℕ) (ls : List (List ℕ)) → heads (take n ls) + heads (take k (drop n ls)) ≡ heads (take (n + k) ls)
+heads_more n k ls = sym (ap heads (take-add n k ls) ∙ heads_append (take n ls) (take k (drop n ls)))
 
 -- no head stands before the next
-pub heads-before : (ls : List (List ℕ)) → heads (take (before ls) ls) ≡ 0
-heads-before [] = refl
-heads-before (l ∷ ls) =
+pub heads_before : (ls : List (List ℕ)) → heads (take (before ls) ls) ≡ 0
+heads_before [] = refl
+heads_before (l ∷ ls) =
     ⊎_elim
-    (λ h. ap (λ k. heads (take k (l ∷ ls))) (before-yes l ls h))
-    (λ h. ap (λ k. heads (take k (l ∷ ls))) (before-no l ls h) ∙ heads-no l (take (before ls) ls) h ∙ heads-before ls)
+    (λ h. ap (λ k. heads (take k (l ∷ ls))) (before_yes l ls h))
+    (λ h. ap (λ k. heads (take k (l ∷ ls))) (before_no l ls h) ∙ heads_no l (take (before ls) ls) h ∙ heads_before ls)
     (cases_Bool (is_head l))
 
 -- and it is one
-heads-through : (ls : List (List ℕ)) → before ls < length ls → heads (take (suc (before ls)) ls) ≡ 1
-heads-through [] b = absurd (omega arith)
-heads-through (l ∷ ls) b =
+heads_through : (ls : List (List ℕ)) → before ls < length ls → heads (take (suc (before ls)) ls) ≡ 1
+heads_through [] b = absurd (omega arith)
+heads_through (l ∷ ls) b =
     ⊎_elim
-    (λ h. ap (λ k. heads (take (suc k) (l ∷ ls))) (before-yes l ls h) ∙ heads-yes l [] h)
-    (λ h. ap (λ k. heads (take (suc k) (l ∷ ls))) (before-no l ls h) ∙ heads-no l (take (suc (before ls)) ls) h ∙ heads-through ls (omega (arith, before-no l ls h)))
+    (λ h. ap (λ k. heads (take (suc k) (l ∷ ls))) (before_yes l ls h) ∙ heads_yes l [] h)
+    (λ h. ap (λ k. heads (take (suc k) (l ∷ ls))) (before_no l ls h) ∙ heads_no l (take (suc (before ls)) ls) h ∙ heads_through ls (omega (arith, before_no l ls h)))
     (cases_Bool (is_head l))
 
 -- k lines on
 moved_on : (file : List ℕ) (v : View) (k : ℕ) → Stands file v → (drop k v.ahead ≡ drop (v.place.line + k) (lines_of file)) × (v.place.sheet + heads (take k v.ahead) ≡ heads (take (v.place.line + k) (lines_of file)))
 moved_on file v k s = (
   ap (drop k) s.0 ∙ drop-drop k v.place.line (lines_of file),
-  ap (λ ls. v.place.sheet + heads (take k ls)) s.0 ∙ ap (λ n. n + heads (take k (drop v.place.line (lines_of file)))) s.1 ∙ heads-more v.place.line k (lines_of file),
+  ap (λ ls. v.place.sheet + heads (take k ls)) s.0 ∙ ap (λ n. n + heads (take k (drop v.place.line (lines_of file)))) s.1 ∙ heads_more v.place.line k (lines_of file),
 )
 
 -- which answer was given says whether a head is ahead
-some-by : (a b c : Bool) (e f : SheetFault) (p : Place) (r : Result Head LineFault) (h : Head) → Ok (Some h) ≡ cond a (Err e) (cond b (Err f) (cond c (Ok None) (located p r))) → c ≡ false
-some-by true b c e f p r h q = cc
-some-by false true c e f p r h q = cc
-some-by false false true e f p r h q = cc
-some-by false false false e f p r h q = refl
+some_by : (a b c : Bool) (e f : SheetFault) (p : Place) (r : Result Head LineFault) (h : Head) → Ok (Some h) ≡ cond a (Err e) (cond b (Err f) (cond c (Ok None) (located p r))) → c ≡ false
+some_by true b c e f p r h q = cc
+some_by false true c e f p r h q = cc
+some_by false false true e f p r h q = cc
+some_by false false false e f p r h q = refl
 
-none-by : (a b c : Bool) (e f : SheetFault) (p : Place) (r : Result Head LineFault) → Ok None ≡ cond a (Err e) (cond b (Err f) (cond c (Ok None) (located p r))) → c ≡ true
-none-by true b c e f p r q = cc
-none-by false true c e f p r q = cc
-none-by false false true e f p r q = refl
-none-by false false false e f p (Ok h) q = cc
-none-by false false false e f p (Err g) q = cc
+none_by : (a b c : Bool) (e f : SheetFault) (p : Place) (r : Result Head LineFault) → Ok None ≡ cond a (Err e) (cond b (Err f) (cond c (Ok None) (located p r))) → c ≡ true
+none_by true b c e f p r q = cc
+none_by false true c e f p r q = cc
+none_by false false true e f p r q = refl
+none_by false false false e f p (Ok h) q = cc
+none_by false false false e f p (Err g) q = cc
 
-some-ahead : (v : View) (h : Head) → Ok (Some h) ≡ head_answer v → before v.ahead < length v.ahead
-some-ahead v h e = leb-false _ _ (some-by v.too_long _ (leb (length v.ahead) (before v.ahead)) _ _ _ _ h e)
+some_ahead : (v : View) (h : Head) → Ok (Some h) ≡ head_answer v → before v.ahead < length v.ahead
+some_ahead v h e = leb-false _ _ (some_by v.too_long _ (leb (length v.ahead) (before v.ahead)) _ _ _ _ h e)
 
 none_ahead : (v : View) → Ok None ≡ head_answer v → length v.ahead ≤ before v.ahead
-none_ahead v e = leb-true _ _ (none-by v.too_long _ (leb (length v.ahead) (before v.ahead)) _ _ _ _ e)
+none_ahead v e = leb-true _ _ (none_by v.too_long _ (leb (length v.ahead) (before v.ahead)) _ _ _ _ e)
 
 -- after a call for a head
 by_answer : (file : List ℕ) (v : View) (r : Result (Option Head) SheetFault) → r ≡ head_answer v → Stands file v → Stands file (head_move v r)
@@ -89,26 +89,26 @@ by_answer file v (Ok (Some h)) e s =
     let n : v.place.line + (before v.ahead + 1) ≡ v.place.line + before v.ahead + 1 = omega arith in
     let o : before v.ahead + 1 ≡ suc (before v.ahead) = omega arith in (
       m.0 ∙ ap (λ k. drop k (lines_of file)) n,
-      ap (λ k. v.place.sheet + k) (sym (heads-through v.ahead (some-ahead v h e)) ∙ ap (λ k. heads (take k v.ahead)) (sym o)) ∙ m.1 ∙ ap (λ k. heads (take k (lines_of file))) n,
+      ap (λ k. v.place.sheet + k) (sym (heads_through v.ahead (some_ahead v h e)) ∙ ap (λ k. heads (take k v.ahead)) (sym o)) ∙ m.1 ∙ ap (λ k. heads (take k (lines_of file))) n,
     )
 by_answer file v (Ok None) e s =
     let m = moved_on file v (length v.ahead) s in
     let all = take_all (before v.ahead) v.ahead (none_ahead v e) in
-    let zero-heads : heads (take (length v.ahead) v.ahead) ≡ 0 = ap heads (take_all (length v.ahead) v.ahead (omega arith) ∙ sym all) ∙ heads-before v.ahead in (
+    let zero_heads : heads (take (length v.ahead) v.ahead) ≡ 0 = ap heads (take_all (length v.ahead) v.ahead (omega arith) ∙ sym all) ∙ heads_before v.ahead in (
       sym (drop_all (length v.ahead) v.ahead (omega arith)) ∙ m.0,
-      sym (add-zero v.place.sheet) ∙ ap (λ k. v.place.sheet + k) (sym zero-heads) ∙ m.1,
+      sym (add-zero v.place.sheet) ∙ ap (λ k. v.place.sheet + k) (sym zero_heads) ∙ m.1,
     )
 by_answer file v (Err f) e s = s
 
-pub head-stands : (file : List ℕ) (v : View) → Stands file v → Stands file (head_after v)
-head-stands file v s = by_answer file v (head_answer v) refl s
+pub head_stands : (file : List ℕ) (v : View) → Stands file v → Stands file (head_after v)
+head_stands file v s = by_answer file v (head_answer v) refl s
 
 -- after a load
-by-fault : (file : List ℕ) (v : View) (o : Option SheetFault) → Stands file v → Stands file (load_move v o)
-by-fault file v (Some f) s = s
-by-fault file v None s =
+by_fault : (file : List ℕ) (v : View) (o : Option SheetFault) → Stands file v → Stands file (load_move v o)
+by_fault file v (Some f) s = s
+by_fault file v None s =
     let m = moved_on file v (before v.ahead) s in
-    (m.0, sym (add-zero v.place.sheet) ∙ ap (λ k. v.place.sheet + k) (sym (heads-before v.ahead)) ∙ m.1)
+    (m.0, sym (add-zero v.place.sheet) ∙ ap (λ k. v.place.sheet + k) (sym (heads_before v.ahead)) ∙ m.1)
 
-pub load-stands : (file : List ℕ) (s : Spelling) (v : View) → Stands file v → Stands file (load_after s v)
-load-stands file s v h = by-fault file v (load_fault s v) h
+pub load_stands : (file : List ℕ) (s : Spelling) (v : View) → Stands file v → Stands file (load_after s v)
+load_stands file s v h = by_fault file v (load_fault s v) h

@@ -5,8 +5,8 @@ use Rattle.rules.specs.Properly.{between}
 use Rattle.statements.specs.declared.entry.Entry.{Entry}
 use Rattle.statements.specs.declared.fault.Fault.{Fault}
 use Rattle.statements.specs.declared.fault.Fault.TheVariants.{Size, Item, Same, Code, Weight, Person}
-use Rattle.statements.specs.Drafts.{enter-checks, row_of}
-use Rattle.statements.specs.Faults.{first-fault}
+use Rattle.statements.specs.Drafts.{enter_checks, row_of}
+use Rattle.statements.specs.Faults.{first_fault}
 use Rattle.files.specs.declared.fault.At.{At}
 use Rattle.files.specs.declared.fault.LineFault.{LineFault}
 use Rattle.files.specs.declared.fault.LineFault.TheVariants.{Draft}
@@ -37,7 +37,7 @@ refused_line field None = None
 
 -- what a draft refuses an entry by
 abbrev pub entry_refusal : Spelling → ℕ → List Row → Entry → Option Fault
-entry_refusal s items rows e = first-fault (enter-checks s.codes items rows e)
+entry_refusal s items rows e = first_fault (enter_checks s.codes items rows e)
 
 -- the first fault of a statement's line, for a draft with so many items and these rows
 abbrev pub line_fault : Spelling → ℕ → List Row → List ℕ → Option LineFault

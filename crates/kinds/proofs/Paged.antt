@@ -11,8 +11,8 @@ module _ {V : Type 0} (value : ℕ → V) where
   written_none page = record { long = refl; front = λ i other l m. absurd (not-suc-le-zero l); rest = λ i other l. refl }
 
   -- one place more
-  pub written-more : (n : ℕ) (old page : List V) → Written n value old page → n < length page → Written (n + 1) value old (set page n (value n))
-  written-more n old page w h = record {
+  pub written_more : (n : ℕ) (old page : List V) → Written n value old page → n < length page → Written (n + 1) value old (set page n (value n))
+  written_more n old page w h = record {
     long = length-set page n (value n) ∙ w.long;
     front = λ i other l m. elim (cases_eq i n) [
       | inl e ↦ subst (λ (k : ℕ). get_or (set page n (value n)) k other ≡ value k) (sym e) (get_or-set_same page n (value n) other h)
@@ -28,8 +28,8 @@ module _ {V : Type 0} (value : ℕ → V) where
       beyond i l e = omega arith
 
   -- past the end of the page there is nothing to write
-  pub written-past : (n : ℕ) (old page : List V) → Written n value old page → length page ≤ n → Written (n + 1) value old page
-  written-past n old page w h = record {
+  pub written_past : (n : ℕ) (old page : List V) → Written n value old page → length page ≤ n → Written (n + 1) value old page
+  written_past n old page w h = record {
     long = w.long;
     front = λ i other l m. w.front i other (within i m) m;
     rest = λ i other l. w.rest i other (omega arith);
@@ -39,9 +39,9 @@ module _ {V : Type 0} (value : ℕ → V) where
       within i m = omega (arith, w.long)
 
   -- what holds of the values holds of the page
-  pub realised-on : (m : Meaning V) (n : ℕ) (scenario : List ℕ) (old page : List V) → Written n value old page → n ≤ length old →
+  pub realised_on : (m : Meaning V) (n : ℕ) (scenario : List ℕ) (old page : List V) → Written n value old page → n ≤ length old →
       Realises m n scenario value → (other : V) → Realises m n scenario (λ i. get_or page i other)
-  realised-on m n scenario old page w h r other = record {
+  realised_on m n scenario old page w h r other = record {
     lawful = λ i l. subst m.lawful (sym (w.front i other l (omega arith))) (r.lawful i l);
     related = λ i j l k.
         subst (λ (x : V). m.holds (entry scenario i j) x (get_or page j other)) (sym (w.front i other (omega arith) (omega arith)))

@@ -3,7 +3,7 @@ use Rattle.std.specs.Prelude.{ℕ, Bool, List, nat_lt}
 use Prim.Native.Nat.{Ordering}
 use Rattle.points.specs.Points.{compose}
 use Rattle.points.specs.Tests.{both, upto}
-use Rattle.points.specs.Marks.{mark-rank}
+use Rattle.points.specs.Marks.{mark_rank}
 
 pub record Layout : Type 0 where
   pub codes : ℕ
@@ -14,14 +14,14 @@ pub record Layout : Type 0 where
   pub side : ℕ → ℕ → ℕ → ℕ → Ordering
 
 -- Along each axis, one mark of the first item, one of the second and one of the third always fit.
-abbrev pub marks-fit : Layout → ℕ → ℕ → ℕ → Bool
-marks-fit l c d e = upto l.axes (λ a. upto l.marks (λ s. upto l.marks (λ t. upto l.marks (λ r.
+abbrev pub marks_fit : Layout → ℕ → ℕ → ℕ → Bool
+marks_fit l c d e = upto l.axes (λ a. upto l.marks (λ s. upto l.marks (λ t. upto l.marks (λ r.
     compose (l.side a c s t) (l.side a d t r) (l.side a e s r)))))
 
 -- The test of a triple: three codes whose marks fit.
 abbrev pub fit : Layout → ℕ → ℕ → ℕ → Bool
-fit l c d e = both (nat_lt c l.codes) (both (nat_lt d l.codes) (both (nat_lt e l.codes) (marks-fit l c d e)))
+fit l c d e = both (nat_lt c l.codes) (both (nat_lt d l.codes) (both (nat_lt e l.codes) (marks_fit l c d e)))
 
 -- How many marks of n items on the axis a lie strictly before mark s of item i.
-abbrev pub rank-on : Layout → ℕ → List ℕ → ℕ → ℕ → ℕ → ℕ
-rank-on l n scenario i a s = mark-rank (l.side a) l.marks n scenario i s
+abbrev pub rank_on : Layout → ℕ → List ℕ → ℕ → ℕ → ℕ → ℕ
+rank_on l n scenario i a s = mark_rank (l.side a) l.marks n scenario i s

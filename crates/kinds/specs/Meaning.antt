@@ -15,16 +15,16 @@ pub record Meaning (V : Type 0) : Type 1 where
   pub converse : ℕ → ℕ
 
 -- Exactly one base relation holds from u to v: the one that `relation` tells.
-pub record Exactly-one {V : Type 0} (m : Meaning V) (u v : V) : Type 0 where
+pub record ExactlyOne {V : Type 0} (m : Meaning V) (u v : V) : Type 0 where
   pub below : m.relation u v < m.codes
   pub that : m.holds (m.relation u v) u v
   pub only : (c : ℕ) → m.holds c u v → c ≡ m.relation u v
 
 -- The self-relation and converse duties of a kind.
 pub record Laws {V : Type 0} (m : Meaning V) : Type 0 where
-  pub some-codes : 1 ≤ m.codes
-  pub few-codes : m.codes ≤ 64
-  pub one : (u v : V) → m.lawful u → m.lawful v → Exactly-one m u v
+  pub some_codes : 1 ≤ m.codes
+  pub few_codes : m.codes ≤ 64
+  pub one : (u v : V) → m.lawful u → m.lawful v → ExactlyOne m u v
   pub self : (u : V) → m.lawful u → m.holds 0 u u
   pub turned : (u v : V) → m.lawful u → m.lawful v → (c : ℕ) → m.holds c u v → m.holds (m.converse c) v u
 
@@ -34,8 +34,8 @@ pub record Fits {V : Type 0} (m : Meaning V) (c d e : ℕ) : Type 0 where
   pub v : V
   pub w : V
   pub u_lawful : m.lawful u
-  pub v-lawful : m.lawful v
-  pub w-lawful : m.lawful w
+  pub v_lawful : m.lawful v
+  pub w_lawful : m.lawful w
   pub first : m.holds c u v
   pub second : m.holds d v w
   pub across : m.holds e u w

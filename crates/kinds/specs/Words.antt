@@ -11,13 +11,13 @@ abbrev pub is : List ℕ → List ℕ → Bool
 is text word = length text == length word && goes_on text 0 word
 
 -- the place of the text among the words, which are counted from c
-abbrev pub place-from : ℕ → List (List ℕ) → List ℕ → Option ℕ
-place-from c [] text = None
-place-from c (word ∷ words) text = cond (is text word) (Some c) (place-from (suc c) words text)
+abbrev pub place_from : ℕ → List (List ℕ) → List ℕ → Option ℕ
+place_from c [] text = None
+place_from c (word ∷ words) text = cond (is text word) (Some c) (place_from (suc c) words text)
 
 -- the code that the text stands for, if it is one of the words
 abbrev pub read : List (List ℕ) → List ℕ → Option ℕ
-read words text = place-from 0 words text
+read words text = place_from 0 words text
 
 -- each word stands for its own code, so no two are alike
 abbrev pub Unambiguous : List (List ℕ) → Type 0

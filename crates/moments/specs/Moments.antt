@@ -4,7 +4,7 @@ use Prim.Native.Nat.{Ordering, compare}
 use Rattle.points.specs.Points.{Says}
 use Rattle.moments.specs.declared.Moment.{Moment}
 use Rattle.kinds.specs.Meaning.{Meaning}
-use Rattle.kinds.specs.Layouts.{Layout, rank-on}
+use Rattle.kinds.specs.Layouts.{Layout, rank_on}
 
 -- the base relations, in the order of their codes
 abbrev pub coded : ℕ → Ordering
@@ -31,8 +31,8 @@ line = record { codes = 3; axes = 1; marks = 1; side = λ a c s t. coded c }
 
 -- a moment is written as how many items lie strictly before it
 abbrev pub moment : ℕ → List ℕ → ℕ → Moment
-moment n scenario i = record { at = rank-on line n scenario i 0 0 }
+moment n scenario i = record { at = rank_on line n scenario i 0 0 }
 
 -- = < >
-abbrev pub moment-words : List (List ℕ)
-moment-words = codes "=" ∷ codes "<" ∷ codes ">" ∷ []
+abbrev pub moment_words : List (List ℕ)
+moment_words = codes "=" ∷ codes "<" ∷ codes ">" ∷ []

@@ -9,18 +9,18 @@ use Rattle.kinds.specs.Meaning.{Realisation}
 use Rattle.moments.specs.Moments.{coded, code, moments, line, moment}
 use Rattle.kinds.proofs.Framed.{Frame, realises}
 
-coded-code : (o : Ordering) → o ≡ coded (code o)
-coded-code Ordering.lt = refl
-coded-code Ordering.eq = refl
-coded-code Ordering.gt = refl
+coded_code : (o : Ordering) → o ≡ coded (code o)
+coded_code Ordering.lt = refl
+coded_code Ordering.eq = refl
+coded_code Ordering.gt = refl
 
 code_below : (o : Ordering) → code o < 3
 code_below Ordering.lt = omega arith
 code_below Ordering.eq = omega arith
 code_below Ordering.gt = omega arith
 
-pub coded-beyond : (c : ℕ) → 3 ≤ c → coded c ≡ Ordering.eq
-coded-beyond c h = get_or_past (Ordering.eq ∷ Ordering.lt ∷ Ordering.gt ∷ []) c Ordering.eq h
+pub coded_beyond : (c : ℕ) → 3 ≤ c → coded c ≡ Ordering.eq
+coded_beyond c h = get_or_past (Ordering.eq ∷ Ordering.lt ∷ Ordering.gt ∷ []) c Ordering.eq h
 
 pub timed : Frame moments line
 timed = record {
@@ -32,7 +32,7 @@ timed = record {
   lawful = λ v h. tt;
   seen = λ u v hu hv c h. (h.0, λ a s t ha hs ht. said (coded c) u.at v.at h.1);
   holds = λ u v hu hv c h e. (h, says (coded c) u.at v.at (e 0 0 0 (omega arith) (omega arith) (omega arith)));
-  told = λ u v hu hv. (code_below (compare u.at v.at), λ a s t ha hs ht. coded-code (compare u.at v.at));
+  told = λ u v hu hv. (code_below (compare u.at v.at), λ a s t ha hs ht. coded_code (compare u.at v.at));
   items = tt;
   selves = tt;
   converses = tt;
@@ -52,6 +52,6 @@ timed = record {
     alone v (suc s) t hs ht = absurd (not-suc-le-zero (le_of_suc-le-suc hs))
 
 -- counting the items before realises a scenario of moments
-pub moments-realise : Realisation moments moment
+pub moments_realise : Realisation moments moment
 unfolding timed
-moments-realise n scenario some few h = realises moments line timed n scenario h
+moments_realise n scenario some few h = realises moments line timed n scenario h

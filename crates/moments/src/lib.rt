@@ -5,10 +5,10 @@ ghost use Rattle.std.specs.Prelude.{◌≡◌, ℕ};
 ghost use Rattle.points.specs.Marks.{Draws};
 ghost use Rattle.points.specs.Sets.{has};
 ghost use Rattle.kinds.specs.Layouts.{fit};
-ghost use Rattle.moments.specs.Moments.{moment-words, moments, line as line-layout, moment};
+ghost use Rattle.moments.specs.Moments.{moment_words, moments, line as line_layout, moment};
 ghost use Rattle.moments.specs.Moments as SpecsMoments;
 ghost use Rattle.kinds.proofs.Framed.{laws};
-ghost use Rattle.moments.specs.Timed.{timed, moments-realise};
+ghost use Rattle.moments.specs.Timed.{timed, moments_realise};
 ghost use Rattle.kinds.proofs.Framed;
 ghost use Rattle.kinds.proofs.Worded;
 
@@ -38,7 +38,7 @@ const TABLE: [[u64; 3]; 3] = [[EQ, LT, GT], [LT, LT, EQ | LT | GT], [GT, EQ | LT
 
 // The composition of two base relations, by the table; empty where one is no code.
 fn composed(c: u8, d: u8) -> u64
-    ensures { (e : ℕ) → has result e ≡ fit line-layout c d e }
+    ensures { (e : ℕ) → has result e ≡ fit line_layout c d e }
 {
     if c < 3 && d < 3 {
         TABLE[c as usize][d as usize]
@@ -54,7 +54,7 @@ const LINE: Axis = Axis {
 };
 
 fn line() -> Axis
-    ensures { Draws result 1 (line-layout.side 0) }
+    ensures { Draws result 1 (line_layout.side 0) }
 {
     LINE
 }
@@ -66,7 +66,7 @@ impl Kind for Moments {
 
     ghost meaning = { moments };
 
-    ghost fit = { fit line-layout };
+    ghost fit = { fit line_layout };
 
     ghost values = { moment };
 
@@ -74,7 +74,7 @@ impl Kind for Moments {
 
     ghost composes = { Framed.composes moments SpecsMoments.line timed };
 
-    ghost realises = { moments-realise };
+    ghost realises = { moments_realise };
 
     fn count() -> u8 {
         Self::CODES
@@ -110,9 +110,9 @@ impl Kind for Moments {
 impl Notation for Moments {
     ghost initial = { 77 };
 
-    ghost words = { moment-words };
+    ghost words = { moment_words };
 
-    ghost unambiguous = { Worded.unambiguous moment-words tt };
+    ghost unambiguous = { Worded.unambiguous moment_words tt };
 
     fn letter() -> u8 {
         b'M'

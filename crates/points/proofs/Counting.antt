@@ -2,33 +2,33 @@
 use Rattle.std.proofs.Common.{◌≡◌, ◌<◌, ◌≤◌, Bool, true, false, T, List, [], ◌∷◌, refl, ap, subst, inl, inr, arith}
 use Rattle.points.specs.Ranks.{one, count, Has}
 
-pub one-le : (a b : Bool) → (T a → T b) → one a ≤ one b
-one-le true true h = omega arith
-one-le true false h = absurd (h tt)
-one-le false true h = omega arith
-one-le false false h = omega arith
+pub one_le : (a b : Bool) → (T a → T b) → one a ≤ one b
+one_le true true h = omega arith
+one_le true false h = absurd (h tt)
+one_le false true h = omega arith
+one_le false false h = omega arith
 
-pub one-small : (b : Bool) → one b ≤ 1
-one-small true = omega arith
-one-small false = omega arith
+pub one_small : (b : Bool) → one b ≤ 1
+one_small true = omega arith
+one_small false = omega arith
 
-one-lt : (a b : Bool) → a ≡ false → b ≡ true → one a < one b
-one-lt a b p q = rw (p, q) (omega arith)
+one_lt : (a b : Bool) → a ≡ false → b ≡ true → one a < one b
+one_lt a b p q = rw (p, q) (omega arith)
 
 module _ {A : Type 0} where
-  pub count-le : (f g : A → Bool) (xs : List A) → ((y : A) → Has y xs → T (f y) → T (g y)) → count f xs ≤ count g xs
-  count-le f g [] h = omega arith
-  count-le f g (x ∷ xs) h =
-      omega (arith, one-le (f x) (g x) (h x (inl refl)), count-le f g xs (λ y m. h y (inr m)))
+  pub count_le : (f g : A → Bool) (xs : List A) → ((y : A) → Has y xs → T (f y) → T (g y)) → count f xs ≤ count g xs
+  count_le f g [] h = omega arith
+  count_le f g (x ∷ xs) h =
+      omega (arith, one_le (f x) (g x) (h x (inl refl)), count_le f g xs (λ y m. h y (inr m)))
 
-  pub count-lt : (f g : A → Bool) (xs : List A) → ((y : A) → Has y xs → T (f y) → T (g y)) →
+  pub count_lt : (f g : A → Bool) (xs : List A) → ((y : A) → Has y xs → T (f y) → T (g y)) →
       (x : A) → Has x xs → f x ≡ false → g x ≡ true → count f xs < count g xs
-  count-lt f g [] h x m p q = absurd m
-  count-lt f g (z ∷ zs) h x (inl e) p q =
-      let here : one (f z) < one (g z) = one-lt (f z) (g z) (subst (λ y. f y ≡ false) e p) (subst (λ y. g y ≡ true) e q) in
-      omega (arith, count-le f g zs (λ y m. h y (inr m)))
-  count-lt f g (z ∷ zs) h x (inr m) p q =
-      omega (arith, one-le (f z) (g z) (h z (inl refl)), count-lt f g zs (λ y n. h y (inr n)) x m p q)
+  count_lt f g [] h x m p q = absurd m
+  count_lt f g (z ∷ zs) h x (inl e) p q =
+      let here : one (f z) < one (g z) = one_lt (f z) (g z) (subst (λ y. f y ≡ false) e p) (subst (λ y. g y ≡ true) e q) in
+      omega (arith, count_le f g zs (λ y m. h y (inr m)))
+  count_lt f g (z ∷ zs) h x (inr m) p q =
+      omega (arith, one_le (f z) (g z) (h z (inl refl)), count_lt f g zs (λ y n. h y (inr n)) x m p q)
 
   pub count_same : (f g : A → Bool) (xs : List A) → ((y : A) → Has y xs → f y ≡ g y) → count f xs ≡ count g xs
   count_same f g [] h = refl

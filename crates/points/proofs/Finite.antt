@@ -22,32 +22,32 @@ pub both_right : (a b : Bool) → T (both a b) → T b
 both_right true b t = t
 both_right false b t = absurd t
 
-pub both-from : (a b : Bool) → T a → T b → T (both a b)
-both-from true b p q = q
-both-from false b p q = p
+pub both_from : (a b : Bool) → T a → T b → T (both a b)
+both_from true b p q = q
+both_from false b p q = p
 
 pub implied : (a b : Bool) → T (implies a b) → T a → T b
 implied true b t h = t
 implied false b t h = absurd h
 
-pub alike-eq : (a b : Bool) → T (alike a b) → a ≡ b
-alike-eq true true t = refl
-alike-eq true false t = absurd t
-alike-eq false true t = absurd t
-alike-eq false false t = refl
+pub alike_eq : (a b : Bool) → T (alike a b) → a ≡ b
+alike_eq true true t = refl
+alike_eq true false t = absurd t
+alike_eq false true t = absurd t
+alike_eq false false t = refl
 
-pub true-from : (a : Bool) → T a → a ≡ true
-true-from true t = refl
-true-from false t = absurd t
+pub true_from : (a : Bool) → T a → a ≡ true
+true_from true t = refl
+true_from false t = absurd t
 
-pub holds-from : (a : Bool) → a ≡ true → T a
-holds-from a e = subst T (sym e) tt
+pub holds_from : (a : Bool) → a ≡ true → T a
+holds_from a e = subst T (sym e) tt
 
-pub upto-at : (n : ℕ) (f : ℕ → Bool) → T (upto n f) → (k : ℕ) → k < n → T (f k)
-upto-at zero f t k h = absurd (not-suc-le-zero h)
-upto-at (suc n) f t k h = elim (cases_order k n) [
+pub upto_at : (n : ℕ) (f : ℕ → Bool) → T (upto n f) → (k : ℕ) → k < n → T (f k)
+upto_at zero f t k h = absurd (not-suc-le-zero h)
+upto_at (suc n) f t k h = elim (cases_order k n) [
   | inl e ↦ subst (λ (m : ℕ). T (f m)) (sym e) (both_left (f n) (upto n f) t)
-  | inr (inl l) ↦ upto-at n f (both_right (f n) (upto n f) t) k l
+  | inr (inl l) ↦ upto_at n f (both_right (f n) (upto n f) t) k l
   | inr (inr g) ↦ absurd (between h g)
 ]
   where
@@ -56,13 +56,13 @@ upto-at (suc n) f t k h = elim (cases_order k n) [
 
 pub upto_from : (n : ℕ) (f : ℕ → Bool) → ((k : ℕ) → k < n → T (f k)) → T (upto n f)
 upto_from zero f h = tt
-upto_from (suc n) f h = both-from (f n) (upto n f) (h n (omega arith)) (upto_from n f (λ k l. h k (omega arith)))
+upto_from (suc n) f h = both_from (f n) (upto n f) (h n (omega arith)) (upto_from n f (λ k l. h k (omega arith)))
 
 -- every ordering passes
 abbrev pub every : (Ordering → Bool) → Bool
 every f = both (f Ordering.lt) (both (f Ordering.eq) (f Ordering.gt))
 
-pub every-at : (f : Ordering → Bool) → T (every f) → (o : Ordering) → T (f o)
-every-at f t Ordering.lt = both_left (f Ordering.lt) (both (f Ordering.eq) (f Ordering.gt)) t
-every-at f t Ordering.eq = both_left (f Ordering.eq) (f Ordering.gt) (both_right (f Ordering.lt) (both (f Ordering.eq) (f Ordering.gt)) t)
-every-at f t Ordering.gt = both_right (f Ordering.eq) (f Ordering.gt) (both_right (f Ordering.lt) (both (f Ordering.eq) (f Ordering.gt)) t)
+pub every_at : (f : Ordering → Bool) → T (every f) → (o : Ordering) → T (f o)
+every_at f t Ordering.lt = both_left (f Ordering.lt) (both (f Ordering.eq) (f Ordering.gt)) t
+every_at f t Ordering.eq = both_left (f Ordering.eq) (f Ordering.gt) (both_right (f Ordering.lt) (both (f Ordering.eq) (f Ordering.gt)) t)
+every_at f t Ordering.gt = both_right (f Ordering.eq) (f Ordering.gt) (both_right (f Ordering.lt) (both (f Ordering.eq) (f Ordering.gt)) t)

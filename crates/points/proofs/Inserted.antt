@@ -6,8 +6,8 @@ use Rattle.std.proofs.lemmas.Nat.{or_comm, or_shifted, one_shl}
 use Rattle.points.specs.Sets.{has}
 
 -- the codes below the new one are as they were
-pub has-add-below : (set e k : ℕ) → k < e → has (set + 2 ^ e) k ≡ has set k
-has-add-below set e k l =
+pub has_add_below : (set e k : ℕ) → k < e → has (set + 2 ^ e) k ≡ has set k
+has_add_below set e k l =
     let apart : e ≡ k + (1 + (e - k - 1)) = omega arith in
     let split : 2 ^ e ≡ 2 ^ k * 2 ^ (1 + (e - k - 1)) = ap (λ (n : ℕ). 2 ^ n) apart ∙ pow-add 2 k (1 + (e - k - 1)) in
     ap (λ (n : ℕ). eqb (n % 2) 1)
@@ -16,20 +16,20 @@ has-add-below set e k l =
     ∙ ap (λ (n : ℕ). eqb n 1) (add-mul-mod_self_left (set / 2 ^ k) 2 (2 ^ (e - k - 1)))
 
 -- and the new one is in the set
-pub has-add-here : (set e : ℕ) → set < 2 ^ e → has (set + 2 ^ e) e ≡ true
-has-add-here set e h =
+pub has_add_here : (set e : ℕ) → set < 2 ^ e → has (set + 2 ^ e) e ≡ true
+has_add_here set e h =
     ap (λ (n : ℕ). eqb (n % 2) 1)
     (ap (λ (n : ℕ). (set + n) / 2 ^ e) (sym (mul-one (2 ^ e))) ∙ add-mul-div_left set 1 (pow_pos e) ∙ ap (λ (n : ℕ). n + 1) (div-eq_of_lt h))
 
-pub or-bit : (set e : ℕ) → set < 2 ^ e → e < 64 → bit_or set ((1 * 2 ^ e) % 2 ^ 64) ≡ set + 2 ^ e
-or-bit set e h l =
+pub or_bit : (set e : ℕ) → set < 2 ^ e → e < 64 → bit_or set ((1 * 2 ^ e) % 2 ^ 64) ≡ set + 2 ^ e
+or_bit set e h l =
     ap (λ (n : ℕ). bit_or set n) (one_shl e 64 l)
     ∙ or_comm set (2 ^ e)
-    ∙ (let one-times : 1 * 2 ^ e ≡ 2 ^ e = omega arith in
-    subst (λ (n : ℕ). bit_or n set ≡ set + n) one-times (or_shifted 1 e set h ∙ (let turn : 1 * 2 ^ e + set ≡ set + 1 * 2 ^ e = omega arith in turn)))
+    ∙ (let one_times : 1 * 2 ^ e ≡ 2 ^ e = omega arith in
+    subst (λ (n : ℕ). bit_or n set ≡ set + n) one_times (or_shifted 1 e set h ∙ (let turn : 1 * 2 ^ e + set ≡ set + 1 * 2 ^ e = omega arith in turn)))
 
-pub add-below : (set e : ℕ) → set < 2 ^ e → set + 2 ^ e < 2 ^ (e + 1)
-add-below set e h = let double : 2 ^ (e + 1) ≡ 2 ^ e * 2 = pow-add 2 e 1 in omega arith
+pub add_below : (set e : ℕ) → set < 2 ^ e → set + 2 ^ e < 2 ^ (e + 1)
+add_below set e h = let double : 2 ^ (e + 1) ≡ 2 ^ e * 2 = pow-add 2 e 1 in omega arith
 
 pub set_below : (set e : ℕ) → set < 2 ^ e → set < 2 ^ (e + 1)
 set_below set e h = let double : 2 ^ (e + 1) ≡ 2 ^ e * 2 = pow-add 2 e 1 in omega arith

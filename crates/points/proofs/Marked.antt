@@ -5,33 +5,33 @@ use Rattle.std.proofs.lemmas.Bool.{cases_order, cases_lt}
 use Rattle.points.specs.Points.{converse, is_lt, compose}
 use Rattle.points.specs.Ranks.{one, count, Has, rank, Consistent}
 use Rattle.points.specs.Scenarios.{entry}
-use Rattle.points.specs.Marks.{of-item, marks, choose, stands, in-scenario, mark-rank}
-use Rattle.points.proofs.Compare.{compare-lt, compare-gt, compare_self, compare-converse, compose-compare, converse-converse, compose-swap, compose-turn}
+use Rattle.points.specs.Marks.{of_item, marks, choose, stands, in_scenario, mark_rank}
+use Rattle.points.proofs.Compare.{compare_lt, compare_gt, compare_self, compare_converse, compose_compare, converse_converse, compose_swap, compose_turn}
 use Rattle.points.proofs.Counting.{count_same}
-use Rattle.points.proofs.Ranked.{rank-lemma}
+use Rattle.points.proofs.Ranked.{rank_lemma}
 
 -- the marks of n items that have m each are the pairs (i, s) with i < n and s < m
 
-of-item-rest : (k m : ℕ) (ms : List (ℕ × ℕ)) (x : ℕ × ℕ) → Has x ms → Has x (of-item k m ms)
-of-item-rest k zero ms x h = h
-of-item-rest k (suc m) ms x h = inr (of-item-rest k m ms x h)
+of_item_rest : (k m : ℕ) (ms : List (ℕ × ℕ)) (x : ℕ × ℕ) → Has x ms → Has x (of_item k m ms)
+of_item_rest k zero ms x h = h
+of_item_rest k (suc m) ms x h = inr (of_item_rest k m ms x h)
 
-of-item-here : (k m : ℕ) (ms : List (ℕ × ℕ)) (s : ℕ) → s < m → Has (k, s) (of-item k m ms)
-of-item-here k zero ms s h = absurd (not-suc-le-zero h)
-of-item-here k (suc m) ms s h = elim (cases_order s m) [
+of_item_here : (k m : ℕ) (ms : List (ℕ × ℕ)) (s : ℕ) → s < m → Has (k, s) (of_item k m ms)
+of_item_here k zero ms s h = absurd (not-suc-le-zero h)
+of_item_here k (suc m) ms s h = elim (cases_order s m) [
   | inl e ↦ inl (ap (λ (u : ℕ). (k, u)) e)
-  | inr (inl l) ↦ inr (of-item-here k m ms s l)
+  | inr (inl l) ↦ inr (of_item_here k m ms s l)
   | inr (inr g) ↦ absurd (between g)
 ]
   where
     between : m < s → ⊥
     between g = omega arith
 
-pub has-mark : (m n i s : ℕ) → i < n → s < m → Has (i, s) (marks m n)
-has-mark m zero i s l h = absurd (not-suc-le-zero l)
-has-mark m (suc n) i s l h = elim (cases_order i n) [
-  | inl e ↦ subst (λ (k : ℕ). Has (k, s) (of-item n m (marks m n))) (sym e) (of-item-here n m (marks m n) s h)
-  | inr (inl p) ↦ of-item-rest n m (marks m n) (i, s) (has-mark m n i s p h)
+pub has_mark : (m n i s : ℕ) → i < n → s < m → Has (i, s) (marks m n)
+has_mark m zero i s l h = absurd (not-suc-le-zero l)
+has_mark m (suc n) i s l h = elim (cases_order i n) [
+  | inl e ↦ subst (λ (k : ℕ). Has (k, s) (of_item n m (marks m n))) (sym e) (of_item_here n m (marks m n) s h)
+  | inr (inl p) ↦ of_item_rest n m (marks m n) (i, s) (has_mark m n i s p h)
   | inr (inr p) ↦ absurd (between p)
 ]
   where
@@ -41,17 +41,17 @@ has-mark m (suc n) i s l h = elim (cases_order i n) [
 Within : ℕ → ℕ → ℕ × ℕ → Type 0
 Within m n x = (x.0 < n) × (x.1 < m)
 
-of-item-within : (p n k : ℕ) → k < n → (m : ℕ) → m ≤ p → (ms : List (ℕ × ℕ)) → ((x : ℕ × ℕ) → Has x ms → Within p n x) → (x : ℕ × ℕ) → Has x (of-item k m ms) → Within p n x
+of_item_within : (p n k : ℕ) → k < n → (m : ℕ) → m ≤ p → (ms : List (ℕ × ℕ)) → ((x : ℕ × ℕ) → Has x ms → Within p n x) → (x : ℕ × ℕ) → Has x (of_item k m ms) → Within p n x
 unfolding Within
-of-item-within p n k l zero b ms f x h = f x h
-of-item-within p n k l (suc m) b ms f x (inl e) = subst (λ (y : ℕ × ℕ). Within p n y) (sym e) (l, omega arith)
-of-item-within p n k l (suc m) b ms f x (inr h) = of-item-within p n k l m (omega arith) ms f x h
+of_item_within p n k l zero b ms f x h = f x h
+of_item_within p n k l (suc m) b ms f x (inl e) = subst (λ (y : ℕ × ℕ). Within p n y) (sym e) (l, omega arith)
+of_item_within p n k l (suc m) b ms f x (inr h) = of_item_within p n k l m (omega arith) ms f x h
 
-pub mark-within : (m n : ℕ) (x : ℕ × ℕ) → Has x (marks m n) → (x.0 < n) × (x.1 < m)
+pub mark_within : (m n : ℕ) (x : ℕ × ℕ) → Has x (marks m n) → (x.0 < n) × (x.1 < m)
 unfolding Within
-mark-within m zero x h = absurd h
-mark-within m (suc n) x h =
-    of-item-within m (suc n) n (omega arith) m (omega arith) (marks m n) (λ y g. up y (mark-within m n y g)) x h
+mark_within m zero x h = absurd h
+mark_within m (suc n) x h =
+    of_item_within m (suc n) n (omega arith) m (omega arith) (marks m n) (λ y g. up y (mark_within m n y g)) x h
   where
     up : (y : ℕ × ℕ) → (y.0 < n) × (y.1 < m) → (y.0 < suc n) × (y.1 < m)
     up y w = (omega arith, w.1)
@@ -63,14 +63,14 @@ pub record Fitting (at : ℕ → ℕ → ℕ → ℕ → Ordering) (m n : ℕ) :
   pub triple : (i j k : ℕ) → i < j → j < k → k < n → (s t r : ℕ) → s < m → t < m → r < m → T (compose (at i j s t) (at j k t r) (at i k s r))
 
 module _ (at : ℕ → ℕ → ℕ → ℕ → Ordering) where
-  pub stands-lt : (i j s t : ℕ) → i < j → stands at (i, s) (j, t) ≡ at i j s t
-  stands-lt i j s t h = ap (λ (o : Ordering). choose o (at i j s t) (compare s t) (converse (at j i t s))) (compare-lt i j h)
+  pub stands_lt : (i j s t : ℕ) → i < j → stands at (i, s) (j, t) ≡ at i j s t
+  stands_lt i j s t h = ap (λ (o : Ordering). choose o (at i j s t) (compare s t) (converse (at j i t s))) (compare_lt i j h)
 
-  pub stands-gt : (i j s t : ℕ) → j < i → stands at (i, s) (j, t) ≡ converse (at j i t s)
-  stands-gt i j s t h = ap (λ (o : Ordering). choose o (at i j s t) (compare s t) (converse (at j i t s))) (compare-gt i j h)
+  pub stands_gt : (i j s t : ℕ) → j < i → stands at (i, s) (j, t) ≡ converse (at j i t s)
+  stands_gt i j s t h = ap (λ (o : Ordering). choose o (at i j s t) (compare s t) (converse (at j i t s))) (compare_gt i j h)
 
-  pub stands-own : (i s t : ℕ) → stands at (i, s) (i, t) ≡ compare s t
-  stands-own i s t = ap (λ (o : Ordering). choose o (at i i s t) (compare s t) (converse (at i i t s))) (compare_self i)
+  pub stands_own : (i s t : ℕ) → stands at (i, s) (i, t) ≡ compare s t
+  stands_own i s t = ap (λ (o : Ordering). choose o (at i i s t) (compare s t) (converse (at i i t s))) (compare_self i)
 
   Three : ℕ × ℕ → ℕ × ℕ → ℕ × ℕ → Type 0
   Three x y z = T (compose (stands at x y) (stands at y z) (stands at x z))
@@ -78,26 +78,26 @@ module _ (at : ℕ → ℕ → ℕ → ℕ → Ordering) where
   turned : (x y : ℕ × ℕ) → stands at y x ≡ converse (stands at x y)
   turned x y = elim (cases_order x.0 y.0) [
     | inl e ↦ own x.0 x.1 y.1 y.0 e
-    | inr (inl l) ↦ stands-gt y.0 x.0 y.1 x.1 l ∙ ap converse (sym (stands-lt x.0 y.0 x.1 y.1 l))
-    | inr (inr g) ↦ stands-lt y.0 x.0 y.1 x.1 g ∙ converse-converse (at y.0 x.0 y.1 x.1) ∙ ap converse (sym (stands-gt x.0 y.0 x.1 y.1 g))
+    | inr (inl l) ↦ stands_gt y.0 x.0 y.1 x.1 l ∙ ap converse (sym (stands_lt x.0 y.0 x.1 y.1 l))
+    | inr (inr g) ↦ stands_lt y.0 x.0 y.1 x.1 g ∙ converse_converse (at y.0 x.0 y.1 x.1) ∙ ap converse (sym (stands_gt x.0 y.0 x.1 y.1 g))
   ]
     where
       own : (i s t j : ℕ) → i ≡ j → stands at (j, t) (i, s) ≡ converse (stands at (i, s) (j, t))
       own i s t j e =
           subst (λ (k : ℕ). stands at (k, t) (i, s) ≡ converse (stands at (i, s) (k, t))) e
-          (stands-own i t s ∙ compare-converse s t ∙ ap converse (sym (stands-own i s t)))
+          (stands_own i t s ∙ compare_converse s t ∙ ap converse (sym (stands_own i s t)))
 
   swap : (x y z : ℕ × ℕ) → Three x y z → Three y x z
   unfolding Three
   swap x y z h =
       subst (λ (o : Ordering). T (compose o (stands at x z) (stands at y z))) (sym (turned x y))
-      (compose-swap (stands at x y) (stands at y z) (stands at x z) h)
+      (compose_swap (stands at x y) (stands at y z) (stands at x z) h)
 
   turn : (x y z : ℕ × ℕ) → Three x y z → Three x z y
   unfolding Three
   turn x y z h =
       subst (λ (o : Ordering). T (compose (stands at x z) o (stands at x y))) (sym (turned y z))
-      (compose-turn (stands at x y) (stands at y z) (stands at x z) h)
+      (compose_turn (stands at x y) (stands at y z) (stands at x z) h)
 
   by : (x y z : ℕ × ℕ) {a b c : Ordering} → stands at x y ≡ a → stands at y z ≡ b → stands at x z ≡ c → T (compose a b c) → Three x y z
   unfolding Three
@@ -109,12 +109,12 @@ module _ (at : ℕ → ℕ → ℕ → ℕ → Ordering) where
     sorted i j k s t r p q l hs ht hr = elim (cases_order i j) [
       | inl e ↦ elim (cases_order j k) [
         | inl d ↦ all_same j k e d
-        | inr (inl o) ↦ left-same j o e
+        | inr (inl o) ↦ left_same j o e
         | inr (inr o) ↦ absurd (no o q)
       ]
       | inr (inl o) ↦ elim (cases_order j k) [
-        | inl d ↦ right-same k l o d
-        | inr (inl w) ↦ by (i, s) (j, t) (k, r) (stands-lt i j s t o) (stands-lt j k t r w) (stands-lt i k s r (far o w)) (f.triple i j k o w l s t r hs ht hr)
+        | inl d ↦ right_same k l o d
+        | inr (inl w) ↦ by (i, s) (j, t) (k, r) (stands_lt i j s t o) (stands_lt j k t r w) (stands_lt i k s r (far o w)) (f.triple i j k o w l s t r hs ht hr)
         | inr (inr w) ↦ absurd (no w q)
       ]
       | inr (inr o) ↦ absurd (no o p)
@@ -130,19 +130,19 @@ module _ (at : ℕ → ℕ → ℕ → ℕ → Ordering) where
         all_same a b e d =
             subst (λ (b : ℕ). Three (i, s) (a, t) (b, r)) d
             (subst (λ (a : ℕ). Three (i, s) (a, t) (a, r)) e
-            (by (i, s) (i, t) (i, r) (stands-own i s t) (stands-own i t r) (stands-own i s r) (compose-compare s t r)))
+            (by (i, s) (i, t) (i, r) (stands_own i s t) (stands_own i t r) (stands_own i s r) (compose_compare s t r)))
 
-        left-same : (a : ℕ) → a < k → i ≡ a → Three (i, s) (a, t) (k, r)
-        left-same a w e =
+        left_same : (a : ℕ) → a < k → i ≡ a → Three (i, s) (a, t) (k, r)
+        left_same a w e =
             let h : i < k = rw e w in
             subst (λ (a : ℕ). Three (i, s) (a, t) (k, r)) e
-            (by (i, s) (i, t) (k, r) (stands-own i s t) (stands-lt i k t r h) (stands-lt i k s r h) (f.left i k h l s t r hs ht hr))
+            (by (i, s) (i, t) (k, r) (stands_own i s t) (stands_lt i k t r h) (stands_lt i k s r h) (f.left i k h l s t r hs ht hr))
 
-        right-same : (b : ℕ) → b < n → i < j → j ≡ b → Three (i, s) (j, t) (b, r)
-        right-same b l o d =
+        right_same : (b : ℕ) → b < n → i < j → j ≡ b → Three (i, s) (j, t) (b, r)
+        right_same b l o d =
             let h : j < n = rw d l in
             subst (λ (b : ℕ). Three (i, s) (j, t) (b, r)) d
-            (by (i, s) (j, t) (j, r) (stands-lt i j s t o) (stands-own j t r) (stands-lt i j s r o) (f.right i j o h s t r hs ht hr))
+            (by (i, s) (j, t) (j, r) (stands_lt i j s t o) (stands_own j t r) (stands_lt i j s r o) (f.right i j o h s t r hs ht hr))
 
     -- three marks in any order
     each : (i j k s t r : ℕ) → i < n → j < n → k < n → s < m → t < m → r < m → Three (i, s) (j, t) (k, r)
@@ -171,19 +171,19 @@ module _ (at : ℕ → ℕ → ℕ → ℕ → Ordering) where
     consistent = record {
       turned = λ x y hx hy. turned x y;
       triple = λ x y z hx hy hz.
-          let a = mark-within m n x hx in let b = mark-within m n y hy in let c = mark-within m n z hz in
+          let a = mark_within m n x hx in let b = mark_within m n y hy in let c = mark_within m n z hz in
           each x.0 y.0 z.0 x.1 y.1 z.1 a.0 b.0 c.0 a.1 b.1 c.1;
     }
 
     -- the ranks of the marks of two items stand as the scenario says
-    pub ranks-pair : (i j s t : ℕ) → i < j → j < n → s < m → t < m → compare (rank (stands at) (marks m n) (i, s)) (rank (stands at) (marks m n) (j, t)) ≡ at i j s t
-    ranks-pair i j s t l w hs ht =
-        rank-lemma (stands at) (marks m n) consistent (i, s) (j, t) (has-mark m n i s (omega arith) hs) (has-mark m n j t w ht) ∙ stands-lt i j s t l
+    pub ranks_pair : (i j s t : ℕ) → i < j → j < n → s < m → t < m → compare (rank (stands at) (marks m n) (i, s)) (rank (stands at) (marks m n) (j, t)) ≡ at i j s t
+    ranks_pair i j s t l w hs ht =
+        rank_lemma (stands at) (marks m n) consistent (i, s) (j, t) (has_mark m n i s (omega arith) hs) (has_mark m n j t w ht) ∙ stands_lt i j s t l
 
     -- those of one item ascend
-    pub ranks-own : (i s t : ℕ) → i < n → s < m → t < m → compare (rank (stands at) (marks m n) (i, s)) (rank (stands at) (marks m n) (i, t)) ≡ compare s t
-    ranks-own i s t l hs ht =
-        rank-lemma (stands at) (marks m n) consistent (i, s) (i, t) (has-mark m n i s l hs) (has-mark m n i t l ht) ∙ stands-own i s t
+    pub ranks_own : (i s t : ℕ) → i < n → s < m → t < m → compare (rank (stands at) (marks m n) (i, s)) (rank (stands at) (marks m n) (i, t)) ≡ compare s t
+    ranks_own i s t l hs ht =
+        rank_lemma (stands at) (marks m n) consistent (i, s) (i, t) (has_mark m n i s l hs) (has_mark m n i t l ht) ∙ stands_own i s t
 
 -- Two ways of saying how the marks of two items stand that agree on their marks give the same ranks.
 pub stands_same : (f g : ℕ → ℕ → ℕ → ℕ → Ordering) (i j s t : ℕ) → f i j s t ≡ g i j s t → f j i t s ≡ g j i t s → stands f (i, s) (j, t) ≡ stands g (i, s) (j, t)
@@ -191,26 +191,26 @@ stands_same f g i j s t p q =
     ap (λ (o : Ordering). choose (compare i j) o (compare s t) (converse (f j i t s))) p
     ∙ ap (λ (o : Ordering). choose (compare i j) (g i j s t) (compare s t) (converse o)) q
 
-pub mark-rank-same : (f g : ℕ → ℕ → ℕ → Ordering) (m : ℕ) → ((c s t : ℕ) → s < m → t < m → f c s t ≡ g c s t) →
-    (n : ℕ) (scenario : List ℕ) (i s : ℕ) → s < m → mark-rank f m n scenario i s ≡ mark-rank g m n scenario i s
-mark-rank-same f g m e n scenario i s hs =
-    count_same (λ y. is_lt (stands (in-scenario f scenario) y (i, s))) (λ y. is_lt (stands (in-scenario g scenario) y (i, s))) (marks m n)
-    (λ y h. let w = mark-within m n y h in
-    ap is_lt (stands_same (in-scenario f scenario) (in-scenario g scenario) y.0 i y.1 s
+pub mark_rank_same : (f g : ℕ → ℕ → ℕ → Ordering) (m : ℕ) → ((c s t : ℕ) → s < m → t < m → f c s t ≡ g c s t) →
+    (n : ℕ) (scenario : List ℕ) (i s : ℕ) → s < m → mark_rank f m n scenario i s ≡ mark_rank g m n scenario i s
+mark_rank_same f g m e n scenario i s hs =
+    count_same (λ y. is_lt (stands (in_scenario f scenario) y (i, s))) (λ y. is_lt (stands (in_scenario g scenario) y (i, s))) (marks m n)
+    (λ y h. let w = mark_within m n y h in
+    ap is_lt (stands_same (in_scenario f scenario) (in_scenario g scenario) y.0 i y.1 s
     (e (entry scenario y.0 i) y.1 s w.1 hs) (e (entry scenario i y.0) s y.1 hs w.1)))
 
 -- a loop over the marks of an item, and one over the items
 
-pub count-of-item : (f : ℕ × ℕ → Bool) (k m : ℕ) (ms : List (ℕ × ℕ)) → count f (of-item k m ms) ≡ count f (of-item k m []) + count f ms
-count-of-item f k zero ms = omega arith
-count-of-item f k (suc m) ms = omega (arith, count-of-item f k m ms)
+pub count_of_item : (f : ℕ × ℕ → Bool) (k m : ℕ) (ms : List (ℕ × ℕ)) → count f (of_item k m ms) ≡ count f (of_item k m []) + count f ms
+count_of_item f k zero ms = omega arith
+count_of_item f k (suc m) ms = omega (arith, count_of_item f k m ms)
 
-pub count-mark : (f : ℕ × ℕ → Bool) (k s sum more : ℕ) → sum ≡ count f (of-item k s []) → more ≡ sum + one (f (k, s)) → more ≡ count f (of-item k (s + 1) [])
-count-mark f k s sum more e d =
-    let step : count f (of-item k (s + 1) []) ≡ one (f (k, s)) + count f (of-item k s []) = ap (λ (r : ℕ). count f (of-item k r [])) (add-one s) in
+pub count_mark : (f : ℕ × ℕ → Bool) (k s sum more : ℕ) → sum ≡ count f (of_item k s []) → more ≡ sum + one (f (k, s)) → more ≡ count f (of_item k (s + 1) [])
+count_mark f k s sum more e d =
+    let step : count f (of_item k (s + 1) []) ≡ one (f (k, s)) + count f (of_item k s []) = ap (λ (r : ℕ). count f (of_item k r [])) (add-one s) in
     omega (arith, step)
 
-pub count-item : (f : ℕ × ℕ → Bool) (m k sum more : ℕ) → sum ≡ count f (marks m k) → more ≡ count f (of-item k m []) → sum + more ≡ count f (marks m (k + 1))
-count-item f m k sum more e d =
-    let step : count f (marks m (k + 1)) ≡ count f (of-item k m (marks m k)) = ap (λ (r : ℕ). count f (marks m r)) (add-one k) in
-    omega (arith, step, count-of-item f k m (marks m k))
+pub count_item : (f : ℕ × ℕ → Bool) (m k sum more : ℕ) → sum ≡ count f (marks m k) → more ≡ count f (of_item k m []) → sum + more ≡ count f (marks m (k + 1))
+count_item f m k sum more e d =
+    let step : count f (marks m (k + 1)) ≡ count f (of_item k m (marks m k)) = ap (λ (r : ℕ). count f (marks m r)) (add-one k) in
+    omega (arith, step, count_of_item f k m (marks m k))

@@ -9,14 +9,14 @@ use Rattle.points.specs.Ranks.{rank}
 use Rattle.points.specs.declared.axis.Axis.{Axis}
 
 -- the m marks of item k, ahead of others
-abbrev pub of-item : ℕ → ℕ → List (ℕ × ℕ) → List (ℕ × ℕ)
-of-item k zero others = others
-of-item k (suc m) others = (k, m) ∷ of-item k m others
+abbrev pub of_item : ℕ → ℕ → List (ℕ × ℕ) → List (ℕ × ℕ)
+of_item k zero others = others
+of_item k (suc m) others = (k, m) ∷ of_item k m others
 
 -- the marks of n items that have m each
 abbrev pub marks : ℕ → ℕ → List (ℕ × ℕ)
 marks m zero = []
-marks m (suc n) = of-item n m (marks m n)
+marks m (suc n) = of_item n m (marks m n)
 
 abbrev pub choose : {A : Type 0} → Ordering → A → A → A → A
 choose Ordering.lt a b c = a
@@ -31,22 +31,22 @@ stands at x y = choose (compare x.0 y.0)
     (converse (at y.0 x.0 y.1 x.1))
 
 -- The same in a scenario, where `sides c s t` says how mark s of the first item stands to mark t of the second under the code c.
-abbrev pub in-scenario : (ℕ → ℕ → ℕ → Ordering) → List ℕ → ℕ → ℕ → ℕ → ℕ → Ordering
-in-scenario sides scenario i j s t = sides (entry scenario i j) s t
+abbrev pub in_scenario : (ℕ → ℕ → ℕ → Ordering) → List ℕ → ℕ → ℕ → ℕ → ℕ → Ordering
+in_scenario sides scenario i j s t = sides (entry scenario i j) s t
 
 -- How many of all marks of n items stand strictly before mark s of item i.
-abbrev pub mark-rank : (ℕ → ℕ → ℕ → Ordering) → ℕ → ℕ → List ℕ → ℕ → ℕ → ℕ
-mark-rank sides m n scenario i s = rank (stands (in-scenario sides scenario)) (marks m n) (i, s)
+abbrev pub mark_rank : (ℕ → ℕ → ℕ → Ordering) → ℕ → ℕ → List ℕ → ℕ → ℕ → ℕ
+mark_rank sides m n scenario i s = rank (stands (in_scenario sides scenario)) (marks m n) (i, s)
 
 -- the set for two marks in a table of two rows of two, or the empty set
-abbrev pub set-for : List (List ℕ) → ℕ → ℕ → ℕ
-set-for table s t = cond (nat_lt s 2) (cond (nat_lt t 2) (slice_index (slice_index_or table s []) t) 0) 0
+abbrev pub set_for : List (List ℕ) → ℕ → ℕ → ℕ
+set_for table s t = cond (nat_lt s 2) (cond (nat_lt t 2) (slice_index (slice_index_or table s []) t) 0) 0
 
 -- What an axis says of two marks: before under the codes of one set, after under the others of the other set, equal under the rest.
 abbrev pub drawn : Axis → ℕ → ℕ → ℕ → Ordering
 drawn axis c s t =
-    cond (has (set-for axis.before s t) c) Ordering.lt
-    (cond (has (set-for axis.after s t) c) Ordering.gt Ordering.eq)
+    cond (has (set_for axis.before s t) c) Ordering.lt
+    (cond (has (set_for axis.after s t) c) Ordering.gt Ordering.eq)
 
 -- The axis has m marks an item, which stand as `sides` says.
 pub record Draws (axis : Axis) (m : ℕ) (sides : ℕ → ℕ → ℕ → Ordering) : Type 0 where

@@ -26,6 +26,6 @@ pub record Consistent {A : Type 0} (cmp : A → A → Ordering) (xs : List A) : 
   pub triple : (x y z : A) → Has x xs → Has y xs → Has z xs → T (compose (cmp x y) (cmp y z) (cmp x z))
 
 -- The rank lemma: the ranks of marks compare as the marks do, for any number of marks and any consistent comparison.
-abbrev pub Rank-lemma : Type 0 → Type 0
-Rank-lemma A = (cmp : A → A → Ordering) (xs : List A) → Consistent cmp xs
+abbrev pub RankLemma : Type 0 → Type 0
+RankLemma A = (cmp : A → A → Ordering) (xs : List A) → Consistent cmp xs
     → (x y : A) → Has x xs → Has y xs → compare (rank cmp xs x) (rank cmp xs y) ≡ cmp x y

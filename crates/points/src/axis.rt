@@ -1,8 +1,8 @@
 // The marks of items on an axis, and their ranks.
 ghost use Rattle.std.specs.Prelude.{◌≡◌, ℕ, ◌≤◌, []};
 ghost use Rattle.points.specs.Points.{converse, is_lt};
-ghost use Rattle.points.specs.Ranks.{count, Rank-lemma};
-ghost use Rattle.points.specs.Marks.{stands, in-scenario, of-item, mark-rank, set-for, drawn};
+ghost use Rattle.points.specs.Ranks.{count, RankLemma};
+ghost use Rattle.points.specs.Marks.{stands, in_scenario, of_item, mark_rank, set_for, drawn};
 
 use crate::scenario::entry;
 use crate::set::contains;
@@ -18,7 +18,7 @@ pub struct Axis {
 
 // The set for two marks, or the empty set where there are none such.
 fn set_of(table: &[[u64; 2]; 2], s: u8, t: u8) -> u64
-    ensures { result ≡ set-for table.now s t }
+    ensures { result ≡ set_for table.now s t }
 {
     if s < 2 && t < 2 {
         table[s as usize][t as usize]
@@ -44,7 +44,7 @@ impl Axis {
 
     // Whether mark s of item k stands before mark t of item i in the scenario.
     fn precedes(&self, scenario: &[u8], k: u8, s: u8, i: u8, t: u8) -> bool
-        ensures { result ≡ is_lt (stands (in-scenario (drawn self.now) scenario.now) (k, s) (i, t)) }
+        ensures { result ≡ is_lt (stands (in_scenario (drawn self.now) scenario.now) (k, s) (i, t)) }
     {
         if k < i {
             self.is_before(entry(scenario, k, i), s, t)
@@ -57,7 +57,7 @@ impl Axis {
 
     // How many marks of item k stand before mark t of item i in the scenario.
     fn preceding(&self, scenario: &[u8], k: u8, i: u8, t: u8) -> u32
-        ensures is { result ≡ count (λ y. is_lt (stands (in-scenario (drawn self.now) scenario.now) y (i, t))) (of-item k self.now.marks []) }
+        ensures is { result ≡ count (λ y. is_lt (stands (in_scenario (drawn self.now) scenario.now) y (i, t))) (of_item k self.now.marks []) }
         ensures few { result ≤ 255 }
     {
         let mut sum = 0;
@@ -72,8 +72,8 @@ impl Axis {
     /// The rank of mark t of item i in the scenario: how many of all marks of the items stand strictly before it. The rank lemma:
     /// ranks compare as the marks do, for any number of marks and any consistent comparison.
     pub fn rank(&self, items: u8, scenario: &[u8], i: u8, t: u8) -> u32
-        ensures compares { Rank-lemma (ℕ × ℕ) }
-        ensures is { result ≡ mark-rank (drawn self.now) self.now.marks items scenario.now i t }
+        ensures compares { RankLemma (ℕ × ℕ) }
+        ensures is { result ≡ mark_rank (drawn self.now) self.now.marks items scenario.now i t }
     {
         let mut sum = 0;
         for k in 0..items {

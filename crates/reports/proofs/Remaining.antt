@@ -34,19 +34,19 @@ no_charge (Took t) h = refl
 no_charge (Shown s) h = refl
 no_charge (Charged c) h = absurd (h c refl)
 
-pub first-there : {V C : Type 0} (answers : List (Answer V C)) (i : ℕ) (a : Answer V C) (s : Sight V C) → i < length answers → a ≡ get_or answers i a
+pub first_there : {V C : Type 0} (answers : List (Answer V C)) (i : ℕ) (a : Answer V C) (s : Sight V C) → i < length answers → a ≡ get_or answers i a
     → first_sight answers ≡ first_sight (drop i answers) → a ≡ Shown s → Some s ≡ first_sight answers
-first-there {V = V} {C = C} answers i a s l e h is =
+first_there {V = V} {C = C} answers i a s l e h is =
     sym (ap (λ (b : Answer V C). or_else (sight_in b) (first_sight (drop (i + 1) answers))) is) ∙ sym (ap first_sight (remaining answers i a l e)) ∙ sym h
 
-pub first-later : {V C : Type 0} (answers : List (Answer V C)) (i : ℕ) (a : Answer V C) → i < length answers → a ≡ get_or answers i a
+pub first_later : {V C : Type 0} (answers : List (Answer V C)) (i : ℕ) (a : Answer V C) → i < length answers → a ≡ get_or answers i a
     → first_sight answers ≡ first_sight (drop i answers) → sight_in a ≡ None → first_sight answers ≡ first_sight (drop (i + 1) answers)
-first-later {V = V} {C = C} answers i a l e h none =
+first_later {V = V} {C = C} answers i a l e h none =
     h ∙ ap first_sight (remaining answers i a l e) ∙ ap (λ (o : Option (Sight V C)). or_else o (first_sight (drop (i + 1) answers))) none
 
-pub charges-later : {V C : Type 0} (answers : List (Answer V C)) (i : ℕ) (a : Answer V C) (charges charges' : List C) → i < length answers → a ≡ get_or answers i a
+pub charges_later : {V C : Type 0} (answers : List (Answer V C)) (i : ℕ) (a : Answer V C) (charges charges' : List C) → i < length answers → a ≡ get_or answers i a
     → charges ++ charges_in (drop i answers) ≡ charges_in answers → charges' ≡ charges ++ charge_in a → charges' ++ charges_in (drop (i + 1) answers) ≡ charges_in answers
-charges-later {C = C} answers i a charges charges' l e h more =
+charges_later {C = C} answers i a charges charges' l e h more =
     ap (λ (z : List C). z ++ charges_in (drop (i + 1) answers)) more
     ∙ append_assoc charges (charge_in a) (charges_in (drop (i + 1) answers))
     ∙ ap (λ (z : List C). charges ++ z) (sym (ap charges_in (remaining answers i a l e)))

@@ -45,7 +45,7 @@ Puts text old new (Ok n) = (n ≡ length text) × (length text ≤ length old) �
 Puts text old new (Err f) = (f ≡ Short) × (length old < length text) × (new ≡ old)
 
 -- The same, or there is no memory to make the text, and the buffer stays as it was.
-abbrev pub Puts-or-wants : List ℕ → List ℕ → List ℕ → Result ℕ Fault → Type 0
-Puts-or-wants text old new (Ok n) = Puts text old new (Ok n)
-Puts-or-wants text old new (Err Memory) = new ≡ old
-Puts-or-wants text old new (Err f) = Puts text old new (Err f)
+abbrev pub PutsOrWants : List ℕ → List ℕ → List ℕ → Result ℕ Fault → Type 0
+PutsOrWants text old new (Ok n) = Puts text old new (Ok n)
+PutsOrWants text old new (Err Memory) = new ≡ old
+PutsOrWants text old new (Err f) = Puts text old new (Err f)

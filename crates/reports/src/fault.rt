@@ -1,6 +1,6 @@
 // The line of a fault.
 ghost use Rattle.std.specs.Prelude.{◌≡◌, IfOk};
-ghost use Rattle.reports.specs.Lines.{Puts-or-wants};
+ghost use Rattle.reports.specs.Lines.{PutsOrWants};
 ghost use Rattle.reports.specs.Faults.{fault_line};
 
 use crate::text::{push_number, put};
@@ -28,7 +28,7 @@ fn fault_text(heap: Global, fault: &SheetFault) -> Result<Vec<u8>, AllocError>
 /// Writes the line of a fault to the front of the buffer, whose rest stays, and answers how many bytes it is. Refused by `Short` if the
 /// buffer is too short, and by `Memory` if there is none to make the text; the buffer is then as it was.
 pub fn write_fault(heap: Global, fault: &SheetFault, buffer: &mut [u8]) -> Result<usize, Fault>
-    ensures { Puts-or-wants (fault_line fault.now) buffer.old buffer.new result }
+    ensures { PutsOrWants (fault_line fault.now) buffer.old buffer.new result }
 {
     match fault_text(heap, fault) {
         Ok(text) => put(buffer, text.as_slice()),

@@ -1,7 +1,7 @@
 // What is shown and charged among the answers of a run.
 ghost use Rattle.std.specs.Prelude.{◌≡◌, IfOk};
 ghost use Rattle.std.specs.Option.{option_copied};
-ghost use Rattle.reports.specs.Found.{first_sight as first_of_sights, charges_in as charges-among};
+ghost use Rattle.reports.specs.Found.{first_sight as first_of_sights, charges_in as charges_among};
 
 use runs::answer::{Answer, Sight};
 use std::alloc::{AllocError, Global};
@@ -20,7 +20,7 @@ pub fn first_sight<V, C>(answers: &[Answer<V, C>]) -> Option<&Sight<V, C>>
 
 /// The charges, in their order.
 pub fn charges_in<V, C: Copy>(heap: Global, answers: &[Answer<V, C>]) -> Result<Vec<C>, AllocError>
-    ensures { IfOk result (λ v. v.items ≡ charges-among answers.now) }
+    ensures { IfOk result (λ v. v.items ≡ charges_among answers.now) }
 {
     let mut charges = Vec::new(heap);
     for answer in answers {

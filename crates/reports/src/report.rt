@@ -1,6 +1,6 @@
 // The report of a settled sheet, line by line.
 ghost use Rattle.std.specs.Prelude.{◌≡◌, ◌++◌, length, IfOk, OnOk};
-ghost use Rattle.reports.specs.Lines.{print, sheet_line, item_line, person_line, lines_from, report_of, Puts-or-wants};
+ghost use Rattle.reports.specs.Lines.{print, sheet_line, item_line, person_line, lines_from, report_of, PutsOrWants};
 
 use crate::printed::{PrintedKind, PrintedTally};
 use crate::text::{push_number, put};
@@ -145,7 +145,7 @@ pub fn write_report<K: PrintedKind, T: PrintedTally>(
     report: &Report<K::Value, T::Cost>,
     buffer: &mut [u8],
 ) -> Result<usize, Fault>
-    ensures { Puts-or-wants (report_of (print K.Notation.initial T.TallyLetter.initial K.PrintedKind.value_text T.PrintedTally.cost_text) (λ c. T.Tally.order c T.Joins.joining.empty) report.now.number report.now.sight.now.values.items report.now.sight.now.cost report.now.sight.now.floor report.now.sight.now.finished report.now.charges.now) buffer.old buffer.new result }
+    ensures { PutsOrWants (report_of (print K.Notation.initial T.TallyLetter.initial K.PrintedKind.value_text T.PrintedTally.cost_text) (λ c. T.Tally.order c T.Joins.joining.empty) report.now.number report.now.sight.now.values.items report.now.sight.now.cost report.now.sight.now.floor report.now.sight.now.finished report.now.charges.now) buffer.old buffer.new result }
 {
     match report_text::<K, T>(heap, report) {
         Ok(text) => put(buffer, text.as_slice()),

@@ -5,15 +5,15 @@ use Rattle.points.specs.Scenarios.{pairs, entry}
 use Rattle.rules.specs.declared.row.Row.{Row}
 use Rattle.rules.specs.Costs.{cost}
 use Rattle.rules.specs.Orders.{Below, index, past}
-use Rattle.rules.specs.Steps.{Rules, Position, position, refuted, first_passing, looked-at, shortest, total, finished, step, advance, taken}
-use Rattle.rules.proofs.Cursors.{digits-index, past_one}
+use Rattle.rules.specs.Steps.{Rules, Position, position, refuted, first_passing, looked_at, shortest, total, finished, step, advance, taken}
+use Rattle.rules.proofs.Cursors.{digits_index, past_one}
 
 -- The first that passes is k, where none before k passes and k does; or past the range, where none in it passes.
-pub first-at : (f : ℕ → Bool) (m q k : ℕ) → q ≤ k → k < q + m → ((z : ℕ) → q ≤ z → z < k → f z ≡ false) → f k ≡ true → first_passing f m q ≡ k
-first-at f zero q k lo hi before here = absurd (omega arith)
-first-at f (suc m) q k lo hi before here = elim (eq-or-lt_of_le lo) [
+pub first_at : (f : ℕ → Bool) (m q k : ℕ) → q ≤ k → k < q + m → ((z : ℕ) → q ≤ z → z < k → f z ≡ false) → f k ≡ true → first_passing f m q ≡ k
+first_at f zero q k lo hi before here = absurd (omega arith)
+first_at f (suc m) q k lo hi before here = elim (eq-or-lt_of_le lo) [
   | inl e ↦ (let passes : f q ≡ true = subst (λ (z : ℕ). f z ≡ true) (sym e) here in cond-true (f q) q (first_passing f m (suc q)) passes ∙ e)
-  | inr l ↦ cond-false (f q) q (first_passing f m (suc q)) (before q (omega arith) l) ∙ first-at f m (suc q) k l (omega arith) (λ z a b. before z (omega arith) b) here
+  | inr l ↦ cond-false (f q) q (first_passing f m (suc q)) (before q (omega arith) l) ∙ first_at f m (suc q) k l (omega arith) (λ z a b. before z (omega arith) b) here
 ]
 
 pub first_past : (f : ℕ → Bool) (m q : ℕ) → ((z : ℕ) → q ≤ z → z < q + m → f z ≡ false) → first_passing f m q ≡ q + m
@@ -30,41 +30,41 @@ told false x y z h g = sym (g refl)
 module _ {C : Type 0} (r : Rules C) (n : ℕ) (rows : List Row) where
   -- A step from the incumbent a with the cursor at the codes e; b and q are the cost of a and the length of the shortest refuted prefix.
   module _ (a e : List ℕ) (some : 0 < r.codes) (long : length e ≡ pairs n) (low : Below r.codes e)
-      (b : C) (is-best : b ≡ cost r.joining rows (entry a))
-      (q : ℕ) (is-first : q ≡ first_passing (refuted r n rows b e) (pairs n + 1) 0) where
+      (b : C) (is_best : b ≡ cost r.joining rows (entry a))
+      (q : ℕ) (is_first : q ≡ first_passing (refuted r n rows b e) (pairs n + 1) 0) where
     abbrev start : Position
     start = position a (index r.codes e)
 
-    here : looked-at r n start ≡ e
-    here = digits-index r.codes (pairs n) e some low long
+    here : looked_at r n start ≡ e
+    here = digits_index r.codes (pairs n) e some low long
 
-    shortest-is : shortest r n rows start ≡ q
-    shortest-is =
+    shortest_is : shortest r n rows start ≡ q
+    shortest_is =
         ap (λ (z : List ℕ). first_passing (refuted r n rows (cost r.joining rows (entry a)) z) (pairs n + 1) 0) here
-        ∙ ap (λ (z : C). first_passing (refuted r n rows z e) (pairs n + 1) 0) (sym is-best) ∙ sym is-first
+        ∙ ap (λ (z : C). first_passing (refuted r n rows z e) (pairs n + 1) 0) (sym is_best) ∙ sym is_first
 
     step_is : step r n rows start ≡ cond (leb q (pairs n)) (position a (past r.codes (pairs n) q (index r.codes e))) (position e (index r.codes e + 1))
     step_is =
-        ap (λ (z : ℕ). cond (leb z (pairs n)) (position a (past r.codes (pairs n) z (index r.codes e))) (position (looked-at r n start) (index r.codes e + 1))) shortest-is
+        ap (λ (z : ℕ). cond (leb z (pairs n)) (position a (past r.codes (pairs n) z (index r.codes e))) (position (looked_at r n start) (index r.codes e + 1))) shortest_is
         ∙ ap (λ (z : List ℕ). cond (leb q (pairs n)) (position a (past r.codes (pairs n) q (index r.codes e))) (position z (index r.codes e + 1))) here
 
     -- A step past a refuted prefix: the cursor is at the codes `out` then, if there is a scenario left.
-    pub step-skips : q ≤ pairs n → (v : Bool) (out : List ℕ)
+    pub step_skips : q ≤ pairs n → (v : Bool) (out : List ℕ)
         → (v ≡ true → index r.codes out ≡ past r.codes (pairs n) q (index r.codes e))
         → (v ≡ false → past r.codes (pairs n) q (index r.codes e) ≡ r.codes ^ pairs n)
         → position a (cond v (index r.codes out) (r.codes ^ pairs n)) ≡ step r n rows start
-    step-skips within v out moved ended =
+    step_skips within v out moved ended =
         let there : cond v (index r.codes out) (r.codes ^ pairs n) ≡ past r.codes (pairs n) q (index r.codes e) =
         told v (index r.codes out) (r.codes ^ pairs n) (past r.codes (pairs n) q (index r.codes e)) moved ended in
         ap (position a) there
         ∙ sym (step_is ∙ cond-true (leb q (pairs n)) (position a (past r.codes (pairs n) q (index r.codes e))) (position e (index r.codes e + 1)) (le-leb q (pairs n) within))
 
     -- A step to a scenario of which no prefix is refuted.
-    pub step-holds : pairs n < q → (v : Bool) (out : List ℕ)
+    pub step_holds : pairs n < q → (v : Bool) (out : List ℕ)
         → (v ≡ true → index r.codes out ≡ past r.codes (pairs n) (pairs n) (index r.codes e))
         → (v ≡ false → past r.codes (pairs n) (pairs n) (index r.codes e) ≡ r.codes ^ pairs n)
         → position e (cond v (index r.codes out) (r.codes ^ pairs n)) ≡ step r n rows start
-    step-holds beyond v out moved ended =
+    step_holds beyond v out moved ended =
         let there : cond v (index r.codes out) (r.codes ^ pairs n) ≡ index r.codes e + 1 =
         told v (index r.codes out) (r.codes ^ pairs n) (past r.codes (pairs n) (pairs n) (index r.codes e)) moved ended
         ∙ past_one r.codes (pairs n) (index r.codes e) in
@@ -80,20 +80,20 @@ module _ {C : Type 0} (r : Rules C) (n : ℕ) (rows : List Row) where
         cond-false (finished r n s) zero (suc (taken r n rows k (step r n rows s))) going,
       )
 
-  turn-off : (k : ℕ) (s : Position) → total r n ≤ s.cursor → (advance r n rows k s ≡ s) × (taken r n rows k s ≡ 0)
-  turn-off zero s l = (refl, refl)
-  turn-off (suc k) s l =
+  turn_off : (k : ℕ) (s : Position) → total r n ≤ s.cursor → (advance r n rows k s ≡ s) × (taken r n rows k s ≡ 0)
+  turn_off zero s l = (refl, refl)
+  turn_off (suc k) s l =
       let done : finished r n s ≡ true = le-leb (total r n) s.cursor l in
       (cond-true (finished r n s) s (advance r n rows k (step r n rows s)) done, cond-true (finished r n s) zero (suc (taken r n rows k (step r n rows s))) done)
 
   -- After m of k steps from `start` the search is at s: what is left to do is done from s.
-  pub record Under-way (k m : ℕ) (start s : Position) : Type 0 where
+  pub record UnderWay (k m : ℕ) (start s : Position) : Type 0 where
     pub few : m ≤ k
     pub leads : advance r n rows k start ≡ advance r n rows (k - m) s
     pub counts : taken r n rows k start ≡ m + taken r n rows (k - m) s
 
-  pub under-way-none : (k : ℕ) (start : Position) → Under-way k 0 start start
-  under-way-none k start =
+  pub under_way_none : (k : ℕ) (start : Position) → UnderWay k 0 start start
+  under_way_none k start =
       let z : k ≡ k - 0 = omega arith in
       record {
         few = omega arith;
@@ -101,8 +101,8 @@ module _ {C : Type 0} (r : Rules C) (n : ℕ) (rows : List Row) where
         counts = (let t : taken r n rows k start ≡ taken r n rows (k - 0) start = ap (λ (i : ℕ). taken r n rows i start) z in omega arith);
       }
 
-  pub under-way-more : (k m : ℕ) (start s t : Position) → Under-way k m start s → m < k → s.cursor < total r n → t ≡ step r n rows s → Under-way k (m + 1) start t
-  under-way-more k m start s t u l room is =
+  pub under_way_more : (k m : ℕ) (start s t : Position) → UnderWay k m start s → m < k → s.cursor < total r n → t ≡ step r n rows s → UnderWay k (m + 1) start t
+  under_way_more k m start s t u l room is =
       let j : k - m ≡ suc (k - (m + 1)) = omega arith in
       let one = turn_on (k - (m + 1)) s room in
       let count : taken r n rows (k - m) s ≡ suc (taken r n rows (k - (m + 1)) t) =
@@ -115,17 +115,17 @@ module _ {C : Type 0} (r : Rules C) (n : ℕ) (rows : List Row) where
       }
 
   -- All steps are taken, or the search has finished.
-  pub under-way-all : (k m : ℕ) (start s : Position) → Under-way k m start s → k ≤ m → (s ≡ advance r n rows k start) × (m ≡ taken r n rows k start)
-  under-way-all k m start s u l =
+  pub under_way_all : (k m : ℕ) (start s : Position) → UnderWay k m start s → k ≤ m → (s ≡ advance r n rows k start) × (m ≡ taken r n rows k start)
+  under_way_all k m start s u l =
       let few = u.few in
       let z : k - m ≡ 0 = omega arith in
       let none : taken r n rows (k - m) s ≡ 0 = ap (λ (i : ℕ). taken r n rows i s) z in
       let so_far = u.counts in
       (sym (u.leads ∙ ap (λ (i : ℕ). advance r n rows i s) z), omega arith)
 
-  pub under-way-done : (k m : ℕ) (start s : Position) → Under-way k m start s → total r n ≤ s.cursor → (s ≡ advance r n rows k start) × (m ≡ taken r n rows k start)
-  under-way-done k m start s u l =
-      let off = turn-off (k - m) s l in
+  pub under_way_done : (k m : ℕ) (start s : Position) → UnderWay k m start s → total r n ≤ s.cursor → (s ≡ advance r n rows k start) × (m ≡ taken r n rows k start)
+  under_way_done k m start s u l =
+      let off = turn_off (k - m) s l in
       let none : taken r n rows (k - m) s ≡ 0 = off.1 in
       let so_far = u.counts in
       (sym (u.leads ∙ off.0), omega arith)

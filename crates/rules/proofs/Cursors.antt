@@ -5,32 +5,32 @@ use lib.Arith.{digits_div}
 use Rattle.std.proofs.lemmas.List.{length-append, length-drop, length-replicate, length-take-le, take-append-drop, take_all, take-take, take-append-le, take-set-le, set_at, get_or_at}
 use Rattle.std.proofs.ByRecursion.{All-get_or, All-append, All-take, All-drop}
 use Rattle.rules.specs.Orders.{Below, index, digits, past}
-use Rattle.rules.proofs.Orders.{index-lt, index_same, index-digits, index-zeros, below-zeros, below-digits, length_digits}
+use Rattle.rules.proofs.Orders.{index_lt, index_same, index_digits, index_zeros, below_zeros, below_digits, length_digits}
 
 -- So many codes 0.
 abbrev pub zeros : ℕ → List ℕ
 zeros r = replicate r 0
 
 -- The number of codes appended.
-pub index-append : (b : ℕ) (a e : List ℕ) → index b (a ++ e) ≡ index b a * b ^ length e + index b e
-index-append b [] e = sym (ap (λ (z : ℕ). z + index b e) (zero-mul (b ^ length e)) ∙ zero-add (index b e))
-index-append b (c ∷ a) e =
-    let h = index-append b a e in
+pub index_append : (b : ℕ) (a e : List ℕ) → index b (a ++ e) ≡ index b a * b ^ length e + index b e
+index_append b [] e = sym (ap (λ (z : ℕ). z + index b e) (zero-mul (b ^ length e)) ∙ zero-add (index b e))
+index_append b (c ∷ a) e =
+    let h = index_append b a e in
     let p : c * b ^ length (a ++ e) ≡ (c * b ^ length a) * b ^ length e =
     ap (λ (z : ℕ). c * b ^ z) (length-append a e) ∙ ap (λ (z : ℕ). c * z) (pow-add b (length a) (length e)) ∙ sym (mul_assoc c (b ^ length a) (b ^ length e)) in
     let d = add-mul (c * b ^ length a) (index b a) (b ^ length e) in
     omega (arith, h, p, d)
 
 -- The number of one code.
-pub index-one : (b c : ℕ) → index b (c ∷ []) ≡ c
-index-one b c = ap (λ (z : ℕ). c * z + 0) (pow-zero b) ∙ (let m = mul-one c in omega (arith, m))
+pub index_one : (b c : ℕ) → index b (c ∷ []) ≡ c
+index_one b c = ap (λ (z : ℕ). c * z + 0) (pow-zero b) ∙ (let m = mul-one c in omega (arith, m))
 
 -- The scenario with the number of a is a.
-pub digits-index : (b p : ℕ) (a : List ℕ) → 0 < b → Below b a → length a ≡ p → digits b p (index b a) ≡ a
-digits-index b p a pos low long =
-    let lt : index b a < b ^ p = subst (λ (z : ℕ). index b a < b ^ z) long (index-lt b a low) in
-    index_same b (digits b p (index b a)) a (below-digits b p (index b a) pos) low (length_digits b p (index b a) ∙ sym long)
-    (index-digits b p (index b a) pos lt)
+pub digits_index : (b p : ℕ) (a : List ℕ) → 0 < b → Below b a → length a ≡ p → digits b p (index b a) ≡ a
+digits_index b p a pos low long =
+    let lt : index b a < b ^ p = subst (λ (z : ℕ). index b a < b ^ z) long (index_lt b a low) in
+    index_same b (digits b p (index b a)) a (below_digits b p (index b a) pos) low (length_digits b p (index b a) ∙ sym long)
+    (index_digits b p (index b a) pos lt)
 
 -- Past a whole scenario is the next number.
 pub past_one : (b p m : ℕ) → past b p p m ≡ m + 1
@@ -39,34 +39,34 @@ past_one b p m =
     ap (λ (w : ℕ). (m / b ^ w + 1) * b ^ w) z ∙ ap (λ (w : ℕ). (m / w + 1) * w) (pow-zero b) ∙ mul-one (m / 1 + 1) ∙ ap (λ (w : ℕ). w + 1) (div-one m)
 
 -- The number without its last digits is that of the first q codes.
-index-take : (b q : ℕ) (a : List ℕ) → Below b a → q ≤ length a → index b a / b ^ (length a - q) ≡ index b (take q a)
-index-take b q a h l =
+index_take : (b q : ℕ) (a : List ℕ) → Below b a → q ≤ length a → index b a / b ^ (length a - q) ≡ index b (take q a)
+index_take b q a h l =
     let e : index b a ≡ index b (take q a) * b ^ length (drop q a) + index b (drop q a) =
-    ap (index b) (sym (take-append-drop q a)) ∙ index-append b (take q a) (drop q a) in
-    let lt = index-lt b (drop q a) (All-drop (λ c. c < b) q a h) in
+    ap (index b) (sym (take-append-drop q a)) ∙ index_append b (take q a) (drop q a) in
+    let lt = index_lt b (drop q a) (All-drop (λ c. c < b) q a h) in
     let r : index b a / b ^ length (drop q a) ≡ index b (take q a) = ap (λ (z : ℕ). z / b ^ length (drop q a)) e ∙ digits_div (index b (take q a)) lt in
     subst (λ (z : ℕ). index b a / b ^ z ≡ index b (take q a)) (length-drop q a) r
 
 -- `past` by the number of the prefix.
 past_is : (b q : ℕ) (a : List ℕ) → Below b a → q ≤ length a → past b (length a) q (index b a) ≡ (index b (take q a) + 1) * b ^ (length a - q)
-past_is b q a h l = ap (λ (z : ℕ). (z + 1) * b ^ (length a - q)) (index-take b q a h l)
+past_is b q a h l = ap (λ (z : ℕ). (z + 1) * b ^ (length a - q)) (index_take b q a h l)
 
 -- The number of a prefix with one more code.
-index-more : (b i : ℕ) (a : List ℕ) → i < length a → index b (take (suc i) a) ≡ index b (take i a) * b + get_or a i 0
-index-more b i a l =
+index_more : (b i : ℕ) (a : List ℕ) → i < length a → index b (take (suc i) a) ≡ index b (take i a) * b + get_or a i 0
+index_more b i a l =
     let one : b ^ 1 ≡ b = pow-suc b 0 ∙ ap (λ (z : ℕ). z * b) (pow-zero b) ∙ one-mul b in
-    ap (index b) (take-suc a i 0 l) ∙ index-append b (take i a) (get_or a i 0 ∷ [])
+    ap (index b) (take-suc a i 0 l) ∙ index_append b (take i a) (get_or a i 0 ∷ [])
     ∙ ap (λ (z : ℕ). index b (take i a) * z + index b (get_or a i 0 ∷ [])) one
-    ∙ ap (λ (z : ℕ). index b (take i a) * b + z) (index-one b (get_or a i 0))
+    ∙ ap (λ (z : ℕ). index b (take i a) * b + z) (index_one b (get_or a i 0))
 
 -- Where the last code of a prefix is the last code of all, past it is past the prefix before it.
-past-carry : (b i : ℕ) (a : List ℕ) → Below b a → i < length a → b ≤ get_or a i 0 + 1
+past_carry : (b i : ℕ) (a : List ℕ) → Below b a → i < length a → b ≤ get_or a i 0 + 1
     → past b (length a) (suc i) (index b a) ≡ past b (length a) i (index b a)
-past-carry b i a h l top =
+past_carry b i a h l top =
     let low : get_or a i 0 < b = All-get_or (λ c. c < b) a i 0 l h in
     let len : length a - i ≡ suc (length a - suc i) = omega arith in
     let up : (index b (take (suc i) a) + 1) ≡ (index b (take i a) + 1) * b =
-    ap (λ (z : ℕ). z + 1) (index-more b i a l) ∙ (let e = add-mul (index b (take i a)) 1 b in let o = one-mul b in omega (arith, e, o, low, top)) in
+    ap (λ (z : ℕ). z + 1) (index_more b i a l) ∙ (let e = add-mul (index b (take i a)) 1 b in let o = one-mul b in omega (arith, e, o, low, top)) in
     past_is b (suc i) a h l
     ∙ ap (λ (z : ℕ). z * b ^ (length a - suc i)) up
     ∙ mul_assoc (index b (take i a) + 1) b (b ^ (length a - suc i))
@@ -74,18 +74,18 @@ past-carry b i a h l top =
     ∙ sym (past_is b i a h (omega arith))
 
 -- Past the empty prefix is past all scenarios.
-pub past-none : (b : ℕ) (a : List ℕ) → Below b a → past b (length a) 0 (index b a) ≡ b ^ length a
-past-none b a h =
+pub past_none : (b : ℕ) (a : List ℕ) → Below b a → past b (length a) 0 (index b a) ≡ b ^ length a
+past_none b a h =
     past_is b 0 a h (omega arith) ∙ (let z : length a - 0 ≡ length a = omega arith in ap (λ (z : ℕ). 1 * b ^ z) z ∙ one-mul (b ^ length a))
 
 -- Otherwise it is the scenario with the last code of the prefix one more and zeros after it.
-past-rise : (b i : ℕ) (a : List ℕ) → Below b a → i < length a
+past_rise : (b i : ℕ) (a : List ℕ) → Below b a → i < length a
     → index b (take i a ++ ((get_or a i 0 + 1) ∷ zeros (length a - suc i))) ≡ past b (length a) (suc i) (index b a)
-past-rise b i a h l =
+past_rise b i a h l =
     let r : ℕ = length a - suc i in
     let zs : List ℕ = zeros r in
     let len : length zs ≡ r = length-replicate r 0 in
-    let tail : index b zs ≡ 0 = index-zeros b r in
+    let tail : index b zs ≡ 0 = index_zeros b r in
     let p : b ^ suc (length zs) ≡ b * b ^ r = pow-suc b (length zs) ∙ mul_comm (b ^ length zs) b ∙ ap (λ (z : ℕ). b * b ^ z) len in
     let q : (get_or a i 0 + 1) * b ^ length zs ≡ (get_or a i 0 + 1) * b ^ r = ap (λ (z : ℕ). (get_or a i 0 + 1) * b ^ z) len in
     let m : index b (take i a) * b ^ suc (length zs) ≡ index b (take i a) * b * b ^ r =
@@ -93,19 +93,19 @@ past-rise b i a h l =
     let d = add-mul (index b (take i a) * b) (get_or a i 0 + 1) (b ^ r) in
     let whole : index b (take i a) * b ^ suc (length zs) + ((get_or a i 0 + 1) * b ^ length zs + index b zs)
     ≡ (index b (take i a) * b + (get_or a i 0 + 1)) * b ^ r = omega (arith, tail, m, q, d) in
-    let same : index b (take i a) * b + (get_or a i 0 + 1) ≡ index b (take (suc i) a) + 1 = (let e = index-more b i a l in omega (arith, e)) in
-    index-append b (take i a) ((get_or a i 0 + 1) ∷ zeros r) ∙ whole ∙ ap (λ (z : ℕ). z * b ^ r) same ∙ sym (past_is b (suc i) a h l)
+    let same : index b (take i a) * b + (get_or a i 0 + 1) ≡ index b (take (suc i) a) + 1 = (let e = index_more b i a l in omega (arith, e)) in
+    index_append b (take i a) ((get_or a i 0 + 1) ∷ zeros r) ∙ whole ∙ ap (λ (z : ℕ). z * b ^ r) same ∙ sym (past_is b (suc i) a h l)
 
 -- A write at i into a list whose codes after i are 0, and a read.
-write-at : (a : List ℕ) (i v : ℕ) → i < length a → set (take (suc i) a ++ zeros (length a - suc i)) i v ≡ take i a ++ (v ∷ zeros (length a - suc i))
-write-at a i v l =
+write_at : (a : List ℕ) (i v : ℕ) → i < length a → set (take (suc i) a ++ zeros (length a - suc i)) i v ≡ take i a ++ (v ∷ zeros (length a - suc i))
+write_at a i v l =
     let r : ℕ = length a - suc i in
     ap (λ (z : List ℕ). set (z ++ zeros r) i v) (take-suc a i 0 l)
     ∙ ap (λ (z : List ℕ). set z i v) (append_assoc (take i a) (get_or a i 0 ∷ []) (zeros r))
     ∙ set_at (take i a) (get_or a i 0) (zeros r) v i (length-take-le i a (omega arith))
 
-zero-at : (a : List ℕ) (i : ℕ) → i < length a → take i a ++ (0 ∷ zeros (length a - suc i)) ≡ take i a ++ zeros (length a - i)
-zero-at a i l = let e : suc (length a - suc i) ≡ length a - i = omega arith in ap (λ (z : ℕ). take i a ++ zeros z) e
+zero_at : (a : List ℕ) (i : ℕ) → i < length a → take i a ++ (0 ∷ zeros (length a - suc i)) ≡ take i a ++ zeros (length a - i)
+zero_at a i l = let e : suc (length a - suc i) ≡ length a - i = omega arith in ap (λ (z : ℕ). take i a ++ zeros z) e
 
 read_at : (a : List ℕ) (i : ℕ) → i < length a → get_or (take (suc i) a ++ zeros (length a - suc i)) i 0 ≡ get_or a i 0
 read_at a i l =
@@ -120,68 +120,68 @@ begins a =
     sym (ap (λ (n : ℕ). take (length a) a ++ zeros n) z ∙ append-nil (take (length a) a) ∙ take_all (length a) a (omega arith))
 
 -- A front with zeros after it has codes only.
-pub below-front : (b i r : ℕ) (a : List ℕ) → 0 < b → Below b a → Below b (take i a ++ zeros r)
-below-front b i r a pos low = All-append (λ c. c < b) (take i a) (zeros r) (All-take (λ c. c < b) i a low) (below-zeros b r pos)
+pub below_front : (b i r : ℕ) (a : List ℕ) → 0 < b → Below b a → Below b (take i a ++ zeros r)
+below_front b i r a pos low = All-append (λ c. c < b) (take i a) (zeros r) (All-take (λ c. c < b) i a low) (below_zeros b r pos)
 
 -- The turns of a loop that carries: the codes of `now` from i on are 0, and past q is past i.
 module _ (b q : ℕ) (a : List ℕ) (low : Below b a) (within : q ≤ length a) where
   abbrev goal : ℕ → ℕ
   goal i = past b (length a) i (index b a)
 
-  pub turn-read : (i : ℕ) (now : List ℕ) → 0 < i → i ≤ length a → now ≡ take i a ++ zeros (length a - i) → get_or now (i - 1) 0 ≡ get_or a (i - 1) 0
-  turn-read zero now p l e = absurd (omega arith)
-  turn-read (suc j) now p l e = let s : suc j - 1 ≡ j = omega arith in rw (s, e) (read_at a j l)
+  pub turn_read : (i : ℕ) (now : List ℕ) → 0 < i → i ≤ length a → now ≡ take i a ++ zeros (length a - i) → get_or now (i - 1) 0 ≡ get_or a (i - 1) 0
+  turn_read zero now p l e = absurd (omega arith)
+  turn_read (suc j) now p l e = let s : suc j - 1 ≡ j = omega arith in rw (s, e) (read_at a j l)
 
   -- The code at i - 1 rises.
-  pub turn-rise : (i : ℕ) (now : List ℕ) → 0 < i → i ≤ length a → now ≡ take i a ++ zeros (length a - i) → goal q ≡ goal i → get_or now (i - 1) 0 + 1 < b
+  pub turn_rise : (i : ℕ) (now : List ℕ) → 0 < i → i ≤ length a → now ≡ take i a ++ zeros (length a - i) → goal q ≡ goal i → get_or now (i - 1) 0 + 1 < b
       → (index b (set now (i - 1) (get_or now (i - 1) 0 + 1)) ≡ goal q) × Below b (set now (i - 1) (get_or now (i - 1) 0 + 1))
-  turn-rise zero now p l e g lt = absurd (omega arith)
-  turn-rise (suc j) now p l e g lt =
+  turn_rise zero now p l e g lt = absurd (omega arith)
+  turn_rise (suc j) now p l e g lt =
       let s : suc j - 1 ≡ j = omega arith in
       let r : get_or now (suc j - 1) 0 ≡ get_or a j 0 = rw (s, e) (read_at a j l) in
       let w : set now (suc j - 1) (get_or now (suc j - 1) 0 + 1) ≡ take j a ++ ((get_or a j 0 + 1) ∷ zeros (length a - suc j)) =
       ap (λ (z : ℕ). set now (suc j - 1) (z + 1)) r ∙ ap (λ (z : ℕ). set now z (get_or a j 0 + 1)) s
-      ∙ ap (λ (z : List ℕ). set z j (get_or a j 0 + 1)) e ∙ write-at a j (get_or a j 0 + 1) l in
+      ∙ ap (λ (z : List ℕ). set z j (get_or a j 0 + 1)) e ∙ write_at a j (get_or a j 0 + 1) l in
       let lt' : get_or a j 0 + 1 < b = omega (arith, r, lt) in (
-        ap (index b) w ∙ past-rise b j a low l ∙ sym g,
+        ap (index b) w ∙ past_rise b j a low l ∙ sym g,
         subst (Below b) (sym w)
             (All-append (λ c. c < b) (take j a) ((get_or a j 0 + 1) ∷ zeros (length a - suc j)) (All-take (λ c. c < b) j a low)
-            (lt', below-zeros b (length a - suc j) (omega arith))),
+            (lt', below_zeros b (length a - suc j) (omega arith))),
       )
 
   -- The code at i - 1 becomes 0.
-  pub turn-zero : (i : ℕ) (now : List ℕ) → 0 < i → i ≤ length a → now ≡ take i a ++ zeros (length a - i)
+  pub turn_zero : (i : ℕ) (now : List ℕ) → 0 < i → i ≤ length a → now ≡ take i a ++ zeros (length a - i)
       → set now (i - 1) 0 ≡ take (i - 1) a ++ zeros (length a - (i - 1))
-  turn-zero zero now p l e = absurd (omega arith)
-  turn-zero (suc j) now p l e =
+  turn_zero zero now p l e = absurd (omega arith)
+  turn_zero (suc j) now p l e =
       let s : suc j - 1 ≡ j = omega arith in
-      let r : set now j 0 ≡ take j a ++ zeros (length a - j) = ap (λ (z : List ℕ). set z j 0) e ∙ write-at a j 0 l ∙ zero-at a j l in
+      let r : set now j 0 ≡ take j a ++ zeros (length a - j) = ap (λ (z : List ℕ). set z j 0) e ∙ write_at a j 0 l ∙ zero_at a j l in
       subst (λ (z : ℕ). set now z 0 ≡ take z a ++ zeros (length a - z)) (sym s) r
 
   -- It did not rise: either it is not one of the first q, or it is the last code.
-  pub turn-carry : (i : ℕ) (now : List ℕ) → 0 < i → i ≤ length a → now ≡ take i a ++ zeros (length a - i) → (i ≤ q → goal q ≡ goal i)
+  pub turn_carry : (i : ℕ) (now : List ℕ) → 0 < i → i ≤ length a → now ≡ take i a ++ zeros (length a - i) → (i ≤ q → goal q ≡ goal i)
       → (i - 1 < q → b ≤ get_or now (i - 1) 0 + 1) → i - 1 ≤ q → goal q ≡ goal (i - 1)
-  turn-carry zero now p l e g top u = absurd (omega arith)
-  turn-carry (suc j) now p l e g top u =
+  turn_carry zero now p l e g top u = absurd (omega arith)
+  turn_carry (suc j) now p l e g top u =
       let s : suc j - 1 ≡ j = omega arith in
       let u' : j ≤ q = omega arith in
       subst (λ (z : ℕ). goal q ≡ goal z) (sym s)
       (elim (eq-or-lt_of_le u') [
         | inl same ↦ ap goal (sym same)
-        | inr lt ↦ (let r = turn-read (suc j) now p l e in
+        | inr lt ↦ (let r = turn_read (suc j) now p l e in
             let t = top (omega arith) in
             let r' : get_or now (suc j - 1) 0 ≡ get_or a j 0 = r ∙ ap (λ (z : ℕ). get_or a z 0) s in
-            g lt ∙ past-carry b j a low l (omega (arith, t, r')))
+            g lt ∙ past_carry b j a low l (omega (arith, t, r')))
       ])
 
 -- The cursor that has risen at i - 1 shares the codes before it.
-pub rise-shares : (a now zs : List ℕ) (i v : ℕ) → 0 < i → i ≤ length a → now ≡ take i a ++ zs → take (i - 1) (set now (i - 1) v) ≡ take (i - 1) a
-rise-shares a now zs i v pos within e =
+pub rise_shares : (a now zs : List ℕ) (i v : ℕ) → 0 < i → i ≤ length a → now ≡ take i a ++ zs → take (i - 1) (set now (i - 1) v) ≡ take (i - 1) a
+rise_shares a now zs i v pos within e =
     take-set-le (i - 1) now (i - 1) v (omega arith) ∙ ap (take (i - 1)) e
     ∙ take-append-le (i - 1) (take i a) zs (let len = length-take-le i a within in omega (arith, len)) ∙ take-take (i - 1) i a (omega arith)
 
 -- The scenario numbered 1: zeros, and 1 in the last pair.
-pub index-second : (b p : ℕ) → index b (zeros p ++ (1 ∷ [])) ≡ 1
-index-second b p =
-    index-append b (zeros p) (1 ∷ []) ∙ ap (λ (z : ℕ). z * b ^ 1 + index b (1 ∷ [])) (index-zeros b p)
-    ∙ ap (λ (z : ℕ). z + index b (1 ∷ [])) (zero-mul (b ^ 1)) ∙ zero-add (index b (1 ∷ [])) ∙ index-one b 1
+pub index_second : (b p : ℕ) → index b (zeros p ++ (1 ∷ [])) ≡ 1
+index_second b p =
+    index_append b (zeros p) (1 ∷ []) ∙ ap (λ (z : ℕ). z * b ^ 1 + index b (1 ∷ [])) (index_zeros b p)
+    ∙ ap (λ (z : ℕ). z + index b (1 ∷ [])) (zero-mul (b ^ 1)) ∙ zero-add (index b (1 ∷ [])) ∙ index_one b 1

@@ -5,14 +5,14 @@ use Rattle.std.proofs.lemmas.Bool.{cases_Bool}
 
 module _ {P : Type 0} where
   -- A filter keeps no more than there is.
-  pub length-kept-by-le : (f : P → Bool) (xs : List P) → length (filter f xs) ≤ length xs
-  length-kept-by-le f xs = omega (arith, length-filter_both f (λ x. not (f x)) (λ x. refl) xs)
+  pub length_kept_by_le : (f : P → Bool) (xs : List P) → length (filter f xs) ≤ length xs
+  length_kept_by_le f xs = omega (arith, length-filter_both f (λ x. not (f x)) (λ x. refl) xs)
 
   -- Two filters, one after the other, are one filter by both tests.
-  pub kept-by-twice : (f g h : P → Bool) → ((x : P) → h x ≡ (g x && f x)) → (xs : List P) → filter f (filter g xs) ≡ filter h xs
-  kept-by-twice f g h both [] = refl
-  kept-by-twice f g h both (x ∷ xs) =
-      let rest = kept-by-twice f g h both xs in
+  pub kept_by_twice : (f g h : P → Bool) → ((x : P) → h x ≡ (g x && f x)) → (xs : List P) → filter f (filter g xs) ≡ filter h xs
+  kept_by_twice f g h both [] = refl
+  kept_by_twice f g h both (x ∷ xs) =
+      let rest = kept_by_twice f g h both xs in
       let here = both x in
       elim (cases_Bool (g x)) [
         | inl e ↦ simp (e, here, rest)
@@ -20,12 +20,12 @@ module _ {P : Type 0} where
       ]
 
   -- Two filters may be exchanged.
-  pub kept-by-exchange : (f g : P → Bool) (xs : List P) → filter f (filter g xs) ≡ filter g (filter f xs)
-  kept-by-exchange f g xs =
-      kept-by-twice f g (λ x. g x && f x) (λ x. refl) xs ∙ sym (kept-by-twice g f (λ x. g x && f x) (λ x. and-exchange (g x) (f x)) xs)
+  pub kept_by_exchange : (f g : P → Bool) (xs : List P) → filter f (filter g xs) ≡ filter g (filter f xs)
+  kept_by_exchange f g xs =
+      kept_by_twice f g (λ x. g x && f x) (λ x. refl) xs ∙ sym (kept_by_twice g f (λ x. g x && f x) (λ x. and_exchange (g x) (f x)) xs)
     where
-      and-exchange : (v w : Bool) → (v && w) ≡ (w && v)
-      and-exchange true true = refl
-      and-exchange true false = refl
-      and-exchange false true = refl
-      and-exchange false false = refl
+      and_exchange : (v w : Bool) → (v && w) ≡ (w && v)
+      and_exchange true true = refl
+      and_exchange true false = refl
+      and_exchange false true = refl
+      and_exchange false false = refl

@@ -3,14 +3,14 @@ use Rattle.std.proofs.Common.{◌≡◌, ℕ, Bool, true, List, subst}
 use Rattle.kinds.specs.Meaning.{Meaning, Laws}
 use Rattle.tallies.specs.Joins.{Joining, Monoid, Ranking}
 use Rattle.tallies.specs.declared.claim.Claim.{Claim}
-use Rattle.rules.specs.Costs.{sheet-bound}
-use Rattle.rules.specs.Soundness.{codes-of, scenario-by, Bound-below, rules}
-use Rattle.rules.proofs.Scenarios.{length-scenario-of}
-use Rattle.rules.proofs.Bounds.{sheet-bound-below}
-use Rattle.rules.proofs.Assignments.{below-scenario-by, cost-scenario-by}
+use Rattle.rules.specs.Costs.{sheet_bound}
+use Rattle.rules.specs.Soundness.{codes_of, scenario_by, BoundBelow, rules}
+use Rattle.rules.proofs.Scenarios.{length_scenario_of}
+use Rattle.rules.proofs.Bounds.{sheet_bound_below}
+use Rattle.rules.proofs.Assignments.{below_scenario_by, cost_scenario_by}
 
-pub bound-below : {V C : Type 0} (m : Meaning V) → Laws m → (fit : ℕ → ℕ → ℕ → Bool) (j : Joining Claim C) → Monoid j → (at_most : C → C → Bool) → Ranking j at_most
-    → Bound-below m (rules m fit j at_most)
-bound-below {C = C} m laws fit j monoid at_most ranking n rows proper y law =
-    subst (λ (z : C). at_most (sheet-bound j at_most m.codes n rows) z ≡ true) (cost-scenario-by m j n rows proper y)
-    (sheet-bound-below j monoid at_most n rows proper m.codes ranking (scenario-by m n y) (length-scenario-of (codes-of m y) n) (below-scenario-by m laws n y law))
+pub bound_below : {V C : Type 0} (m : Meaning V) → Laws m → (fit : ℕ → ℕ → ℕ → Bool) (j : Joining Claim C) → Monoid j → (at_most : C → C → Bool) → Ranking j at_most
+    → BoundBelow m (rules m fit j at_most)
+bound_below {C = C} m laws fit j monoid at_most ranking n rows proper y law =
+    subst (λ (z : C). at_most (sheet_bound j at_most m.codes n rows) z ≡ true) (cost_scenario_by m j n rows proper y)
+    (sheet_bound_below j monoid at_most n rows proper m.codes ranking (scenario_by m n y) (length_scenario_of (codes_of m y) n) (below_scenario_by m laws n y law))

@@ -8,32 +8,32 @@ use Rattle.tallies.specs.declared.claim.Claim.{Claim}
 use Rattle.rules.specs.declared.row.Row.{Row}
 use Rattle.rules.specs.Rows.{Proper}
 use Rattle.rules.specs.Orders.{Before}
-use Rattle.rules.specs.Steps.{Position, best-cost, total, finished}
-use Rattle.rules.specs.Soundness.{Assignment, codes-of, scenario-by, cost-by, Sound, Settled, rules}
-use Rattle.rules.proofs.Scenarios.{scenario-of-entries}
-use Rattle.rules.proofs.Costs.{cost-depends}
-use Rattle.rules.proofs.Assignments.{index-scenario-by}
+use Rattle.rules.specs.Steps.{Position, best_cost, total, finished}
+use Rattle.rules.specs.Soundness.{Assignment, codes_of, scenario_by, cost_by, Sound, Settled, rules}
+use Rattle.rules.proofs.Scenarios.{scenario_of_entries}
+use Rattle.rules.proofs.Costs.{cost_depends}
+use Rattle.rules.proofs.Assignments.{index_scenario_by}
 
 -- Once the search has finished, every assignment costs at least as much as the incumbent.
-pub finished-least : {V C : Type 0} (m : Meaning V) → Laws m → (fit : ℕ → ℕ → ℕ → Bool) (j : Joining Claim C) (at_most : C → C → Bool)
+pub finished_least : {V C : Type 0} (m : Meaning V) → Laws m → (fit : ℕ → ℕ → ℕ → Bool) (j : Joining Claim C) (at_most : C → C → Bool)
     (n : ℕ) (rows : List Row) (s : Position) → Sound m (rules m fit j at_most) n rows s → finished (rules m fit j at_most) n s ≡ true
-    → (x : ℕ → V) → Assignment m n x → at_most (best-cost (rules m fit j at_most) rows s) (cost-by m j rows x) ≡ true
-finished-least m laws fit j at_most n rows s sound done x law =
-    sound.best x law (omega (arith, index-scenario-by m laws n x law, leb-true (total (rules m fit j at_most) n) s.cursor done))
+    → (x : ℕ → V) → Assignment m n x → at_most (best_cost (rules m fit j at_most) rows s) (cost_by m j rows x) ≡ true
+finished_least m laws fit j at_most n rows s sound done x law =
+    sound.best x law (omega (arith, index_scenario_by m laws n x law, leb-true (total (rules m fit j at_most) n) s.cursor done))
 
 -- Values that have the scenario of the incumbent of a sound search, with the cost of the incumbent, are settled.
 pub settled : {V C : Type 0} (m : Meaning V) → Laws m → (fit : ℕ → ℕ → ℕ → Bool) (j : Joining Claim C) (at_most : C → C → Bool)
     (n : ℕ) (rows : List Row) → Proper n rows → (s : Position) → Sound m (rules m fit j at_most) n rows s
     → (x : ℕ → V) → Realises m n s.incumbent x
-    → Settled m (rules m fit j at_most) n rows s x (best-cost (rules m fit j at_most) rows s) (finished (rules m fit j at_most) n s)
+    → Settled m (rules m fit j at_most) n rows s x (best_cost (rules m fit j at_most) rows s) (finished (rules m fit j at_most) n s)
 settled {V = V} {C = C} m laws fit j at_most n rows proper s sound x real =
     let codes : (i k : ℕ) → i < k → k < n → m.relation (x i) (x k) ≡ entry s.incumbent i k =
     λ i k ik kn. sym ((laws.one (x i) (x k) (real.lawful i (omega arith)) (real.lawful k kn)).only (entry s.incumbent i k) (real.related i k ik kn)) in
-    let has : scenario-by m n x ≡ s.incumbent = scenario-of-entries (codes-of m x) n s.incumbent sound.long codes in
+    let has : scenario_by m n x ≡ s.incumbent = scenario_of_entries (codes_of m x) n s.incumbent sound.long codes in
     record {
       lawful = real.lawful;
-      exact = sym (cost-depends j n rows proper (codes-of m x) (entry s.incumbent) codes);
+      exact = sym (cost_depends j n rows proper (codes_of m x) (entry s.incumbent) codes);
       so_far = sound.best;
-      least = finished-least m laws fit j at_most n rows s sound;
-      first = λ y law before. sound.first y law (subst (λ (a : List ℕ). Before (scenario-by m n y) a) has before);
+      least = finished_least m laws fit j at_most n rows s sound;
+      first = λ y law before. sound.first y law (subst (λ (a : List ℕ). Before (scenario_by m n y) a) has before);
     }

@@ -5,21 +5,21 @@ use Rattle.std.proofs.lemmas.List.{length-set, length_push, take_more}
 use Rattle.std.proofs.ByRecursion.{All-push, All-set, All-get_or, All-weaker}
 use Rattle.std.proofs.lemmas.Bool.{and_parts, and_from, le-leb, lt-ltb, leb-true, ltb-true, cond-true}
 use Rattle.rules.specs.declared.row.Row.{Row}
-use Rattle.rules.specs.Rows.{Proper, with-weight}
-use Rattle.rules.specs.Properly.{between, row-proper, all-proper, proper}
+use Rattle.rules.specs.Rows.{Proper, with_weight}
+use Rattle.rules.specs.Properly.{between, row_proper, all_proper, proper}
 
 -- a row is proper
 abbrev pub Sound : ℕ → Row → Type 0
-Sound n r = row-proper n r ≡ true
+Sound n r = row_proper n r ≡ true
 
 -- what a proper row has, in numbers
 pub record Measured (n : ℕ) (r : Row) : Type 0 where
   pub ordered : r.low < r.high
   pub within : r.high < n
-  pub some-weight : 1 ≤ r.weight
-  pub most-weight : r.weight ≤ 1000
-  pub some-person : 1 ≤ r.person
-  pub most-person : r.person ≤ 20
+  pub some_weight : 1 ≤ r.weight
+  pub most_weight : r.weight ≤ 1000
+  pub some_person : 1 ≤ r.person
+  pub most_person : r.person ≤ 20
 
 pub measured : (n : ℕ) (r : Row) → Sound n r → Measured n r
 measured n r h =
@@ -31,110 +31,110 @@ measured n r h =
     record {
       ordered = ltb-true _ _ a.0;
       within = ltb-true _ _ b.0;
-      some-weight = leb-true _ _ d.0;
-      most-weight = leb-true _ _ d.1;
-      some-person = leb-true _ _ e.0;
-      most-person = leb-true _ _ e.1;
+      some_weight = leb-true _ _ d.0;
+      most_weight = leb-true _ _ d.1;
+      some_person = leb-true _ _ e.0;
+      most_person = leb-true _ _ e.1;
     }
 
-pub sound-from : (n : ℕ) (r : Row) → Measured n r → Sound n r
-sound-from n r m =
+pub sound_from : (n : ℕ) (r : Row) → Measured n r → Sound n r
+sound_from n r m =
     and_from _ _ (lt-ltb r.low r.high m.ordered) (and_from _ _ (lt-ltb r.high n m.within)
     (and_from _ _
-    (and_from _ _ (le-leb 1 r.weight m.some-weight) (le-leb r.weight 1000 m.most-weight))
-    (and_from _ _ (le-leb 1 r.person m.some-person) (le-leb r.person 20 m.most-person))))
+    (and_from _ _ (le-leb 1 r.weight m.some_weight) (le-leb r.weight 1000 m.most_weight))
+    (and_from _ _ (le-leb 1 r.person m.some_person) (le-leb r.person 20 m.most_person))))
 
 -- a row that is proper among n items is proper among more
-pub sound-wider : (n m : ℕ) (r : Row) → n ≤ m → Sound n r → Sound m r
-sound-wider n m r l h =
+pub sound_wider : (n m : ℕ) (r : Row) → n ≤ m → Sound n r → Sound m r
+sound_wider n m r l h =
     let a = measured n r h in
-    sound-from m r (record {
+    sound_from m r (record {
       ordered = a.ordered;
       within = omega arith;
-      some-weight = a.some-weight;
-      most-weight = a.most-weight;
-      some-person = a.some-person;
-      most-person = a.most-person;
+      some_weight = a.some_weight;
+      most_weight = a.most_weight;
+      some_person = a.some_person;
+      most_person = a.most_person;
     })
 
 -- and it stays proper when it is given another weight from 1 to 1,000
-pub sound-weight : (n : ℕ) (r : Row) (w : ℕ) → 1 ≤ w → w ≤ 1000 → Sound n r → Sound n (with-weight r w)
-sound-weight n r w some most h =
+pub sound_weight : (n : ℕ) (r : Row) (w : ℕ) → 1 ≤ w → w ≤ 1000 → Sound n r → Sound n (with_weight r w)
+sound_weight n r w some most h =
     let a = measured n r h in
-    sound-from n (with-weight r w) (record {
+    sound_from n (with_weight r w) (record {
       ordered = a.ordered;
       within = a.within;
-      some-weight = some;
-      most-weight = most;
-      some-person = a.some-person;
-      most-person = a.most-person;
+      some_weight = some;
+      most_weight = most;
+      some_person = a.some_person;
+      most_person = a.most_person;
     })
 
 -- rows are proper exactly where there are at most 256 and each is
 
-pub each-sound : (n : ℕ) (rows : List Row) → all-proper n rows ≡ true → Every (Sound n) rows
-each-sound n [] h = tt
-each-sound n (r ∷ rs) h = let p = and_parts (row-proper n r) (all-proper n rs) h in (p.0, each-sound n rs p.1)
+pub each_sound : (n : ℕ) (rows : List Row) → all_proper n rows ≡ true → Every (Sound n) rows
+each_sound n [] h = tt
+each_sound n (r ∷ rs) h = let p = and_parts (row_proper n r) (all_proper n rs) h in (p.0, each_sound n rs p.1)
 
-pub from_each : (n : ℕ) (rows : List Row) → Every (Sound n) rows → all-proper n rows ≡ true
+pub from_each : (n : ℕ) (rows : List Row) → Every (Sound n) rows → all_proper n rows ≡ true
 from_each n [] h = refl
-from_each n (r ∷ rs) h = and_from (row-proper n r) (all-proper n rs) h.0 (from_each n rs h.1)
+from_each n (r ∷ rs) h = and_from (row_proper n r) (all_proper n rs) h.0 (from_each n rs h.1)
 
-pub few-rows : (n : ℕ) (rows : List Row) → proper n rows ≡ true → length rows ≤ 256
-few-rows n rows h = leb-true (length rows) 256 (and_parts (leb (length rows) 256) (all-proper n rows) h).0
+pub few_rows : (n : ℕ) (rows : List Row) → proper n rows ≡ true → length rows ≤ 256
+few_rows n rows h = leb-true (length rows) 256 (and_parts (leb (length rows) 256) (all_proper n rows) h).0
 
-pub sound-rows : (n : ℕ) (rows : List Row) → proper n rows ≡ true → Every (Sound n) rows
-sound-rows n rows h = each-sound n rows (and_parts (leb (length rows) 256) (all-proper n rows) h).1
+pub sound_rows : (n : ℕ) (rows : List Row) → proper n rows ≡ true → Every (Sound n) rows
+sound_rows n rows h = each_sound n rows (and_parts (leb (length rows) 256) (all_proper n rows) h).1
 
-pub proper-from : (n : ℕ) (rows : List Row) → length rows ≤ 256 → Every (Sound n) rows → proper n rows ≡ true
-proper-from n rows few each =
-    and_from (leb (length rows) 256) (all-proper n rows) (le-leb (length rows) 256 few) (from_each n rows each)
+pub proper_from : (n : ℕ) (rows : List Row) → length rows ≤ 256 → Every (Sound n) rows → proper n rows ≡ true
+proper_from n rows few each =
+    and_from (leb (length rows) 256) (all_proper n rows) (le-leb (length rows) 256 few) (from_each n rows each)
 
 -- one row more
-pub proper-push : (n : ℕ) (rows : List Row) (r : Row) → proper n rows ≡ true → length rows < 256 → Sound n r → proper n (rows ++ r ∷ []) ≡ true
-proper-push n rows r h few sound =
-    proper-from n (rows ++ r ∷ []) (let more = length_push rows r in omega arith) (All-push (Sound n) rows r (sound-rows n rows h) sound)
+pub proper_push : (n : ℕ) (rows : List Row) (r : Row) → proper n rows ≡ true → length rows < 256 → Sound n r → proper n (rows ++ r ∷ []) ≡ true
+proper_push n rows r h few sound =
+    proper_from n (rows ++ r ∷ []) (let more = length_push rows r in omega arith) (All-push (Sound n) rows r (sound_rows n rows h) sound)
 
 -- the same, where the rows are what a push left that did not fail
-pub proper-pushed : (n : ℕ) (rows after : List Row) (r : Row) (done : Bool) → after ≡ cond done (rows ++ r ∷ []) rows → done ≡ true → proper n rows ≡ true → length rows < 256 → Sound n r → proper n after ≡ true
-proper-pushed n rows after r done is d h few sound =
-    subst (λ (rs : List Row). proper n rs ≡ true) (sym (is ∙ cond-true done (rows ++ r ∷ []) rows d)) (proper-push n rows r h few sound)
+pub proper_pushed : (n : ℕ) (rows after : List Row) (r : Row) (done : Bool) → after ≡ cond done (rows ++ r ∷ []) rows → done ≡ true → proper n rows ≡ true → length rows < 256 → Sound n r → proper n after ≡ true
+proper_pushed n rows after r done is d h few sound =
+    subst (λ (rs : List Row). proper n rs ≡ true) (sym (is ∙ cond-true done (rows ++ r ∷ []) rows d)) (proper_push n rows r h few sound)
 
 -- one row replaced
-pub proper-set : (n : ℕ) (rows : List Row) (i : ℕ) (r : Row) → proper n rows ≡ true → Sound n r → proper n (set rows i r) ≡ true
-proper-set n rows i r h sound =
-    proper-from n (set rows i r) (let same = length-set rows i r in let few = few-rows n rows h in omega arith)
-    (All-set (Sound n) rows i r sound (sound-rows n rows h))
+pub proper_set : (n : ℕ) (rows : List Row) (i : ℕ) (r : Row) → proper n rows ≡ true → Sound n r → proper n (set rows i r) ≡ true
+proper_set n rows i r h sound =
+    proper_from n (set rows i r) (let same = length-set rows i r in let few = few_rows n rows h in omega arith)
+    (All-set (Sound n) rows i r sound (sound_rows n rows h))
 
 -- one row read
-pub proper-at : (n : ℕ) (rows : List Row) (i : ℕ) (d : Row) → i < length rows → proper n rows ≡ true → Sound n (get_or rows i d)
-proper-at n rows i d l h = All-get_or (Sound n) rows i d l (sound-rows n rows h)
+pub proper_at : (n : ℕ) (rows : List Row) (i : ℕ) (d : Row) → i < length rows → proper n rows ≡ true → Sound n (get_or rows i d)
+proper_at n rows i d l h = All-get_or (Sound n) rows i d l (sound_rows n rows h)
 
 -- the same of a row that was read
-pub proper-read : (n : ℕ) (rows : List Row) (i : ℕ) (r : Row) → i < length rows → r ≡ get_or rows i r → proper n rows ≡ true → Sound n r
-proper-read n rows i r l e h = subst (λ (x : Row). Sound n x) (sym e) (proper-at n rows i r l h)
+pub proper_read : (n : ℕ) (rows : List Row) (i : ℕ) (r : Row) → i < length rows → r ≡ get_or rows i r → proper n rows ≡ true → Sound n r
+proper_read n rows i r l e h = subst (λ (x : Row). Sound n x) (sym e) (proper_at n rows i r l h)
 
 -- proper rows, as the search wants them
-pub proper-is : (n : ℕ) (rows : List Row) → proper n rows ≡ true → Proper n rows
-proper-is n rows h = record {
-  few = few-rows n rows h;
-  items = All-weaker (Sound n) (λ (r : Row). (r.low < r.high) × (r.high < n)) (λ r s. let m = measured n r s in (m.ordered, m.within)) rows (sound-rows n rows h);
-  persons = All-weaker (Sound n) (λ (r : Row). (1 ≤ r.person) × (r.person ≤ 20)) (λ r s. let m = measured n r s in (m.some-person, m.most-person)) rows (sound-rows n rows h);
+pub proper_is : (n : ℕ) (rows : List Row) → proper n rows ≡ true → Proper n rows
+proper_is n rows h = record {
+  few = few_rows n rows h;
+  items = All-weaker (Sound n) (λ (r : Row). (r.low < r.high) × (r.high < n)) (λ r s. let m = measured n r s in (m.ordered, m.within)) rows (sound_rows n rows h);
+  persons = All-weaker (Sound n) (λ (r : Row). (1 ≤ r.person) × (r.person ≤ 20)) (λ r s. let m = measured n r s in (m.some_person, m.most_person)) rows (sound_rows n rows h);
 }
 
 and_assoc : (u v w : Bool) → (u && (v && w)) ≡ ((u && v) && w)
 and_assoc true v w = refl
 and_assoc false v w = refl
 
-and-true : (v : Bool) → (v && true) ≡ v
-and-true true = refl
-and-true false = refl
+and_true : (v : Bool) → (v && true) ≡ v
+and_true true = refl
+and_true false = refl
 
-all-proper-push : (n : ℕ) (rows : List Row) (r : Row) → all-proper n (rows ++ (r ∷ [])) ≡ (all-proper n rows && row-proper n r)
-all-proper-push n [] r = and-true (row-proper n r)
-all-proper-push n (x ∷ xs) r = ap (λ (v : Bool). row-proper n x && v) (all-proper-push n xs r) ∙ and_assoc (row-proper n x) (all-proper n xs) (row-proper n r)
+all_proper_push : (n : ℕ) (rows : List Row) (r : Row) → all_proper n (rows ++ (r ∷ [])) ≡ (all_proper n rows && row_proper n r)
+all_proper_push n [] r = and_true (row_proper n r)
+all_proper_push n (x ∷ xs) r = ap (λ (v : Bool). row_proper n x && v) (all_proper_push n xs r) ∙ and_assoc (row_proper n x) (all_proper n xs) (row_proper n r)
 
 -- Whether one more row is proper too.
-pub all-proper-more : (n : ℕ) (rows : List Row) (i : ℕ) (d : Row) → i < length rows
-    → all-proper n (take (i + 1) rows) ≡ (all-proper n (take i rows) && row-proper n (get_or rows i d))
-all-proper-more n rows i d l = ap (all-proper n) (take_more rows i d l) ∙ all-proper-push n (take i rows) (get_or rows i d)
+pub all_proper_more : (n : ℕ) (rows : List Row) (i : ℕ) (d : Row) → i < length rows
+    → all_proper n (take (i + 1) rows) ≡ (all_proper n (take i rows) && row_proper n (get_or rows i d))
+all_proper_more n rows i d l = ap (all_proper n) (take_more rows i d l) ∙ all_proper_push n (take i rows) (get_or rows i d)

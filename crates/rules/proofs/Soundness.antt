@@ -4,121 +4,121 @@ use native.Mathlib.Nat.{one-le-pow}
 use Rattle.std.proofs.lemmas.List.{length-replicate, get_or-replicate}
 use Rattle.std.proofs.lemmas.Bool.{cases_Bool, cases_lt, both_ways, or_parts, cond_both, leb-true, leb-false}
 use Rattle.points.specs.Scenarios.{pairs, place, entry}
-use Rattle.points.proofs.Placed.{place-within}
+use Rattle.points.proofs.Placed.{place_within}
 use Rattle.kinds.specs.Meaning.{Meaning, Laws, Fits, Realisation}
 use Rattle.tallies.specs.Joins.{Joining, Monoid, Ranking}
 use Rattle.tallies.specs.declared.claim.Claim.{Claim}
 use Rattle.rules.specs.declared.row.Row.{Row}
 use Rattle.rules.specs.Rows.{Proper}
-use Rattle.rules.specs.Costs.{cost, prefix-bound}
+use Rattle.rules.specs.Costs.{cost, prefix_bound}
 use Rattle.rules.specs.Orders.{Below, index, digits, past}
-use Rattle.rules.specs.Steps.{Rules, Position, position, unfit, refuted, looked-at, best-cost, shortest, step, total, opening, finished, advance, taken}
-use Rattle.rules.specs.Soundness.{codes-of, scenario-by, cost-by, Sound, Step-keeps, Search-keeps, Search-sound, rules}
-use Rattle.rules.proofs.Orders.{index_same, in_order, length_digits, below-digits, index-digits, below-zeros, index-zeros, shares-prefix, past-beyond, past-within}
-use Rattle.rules.proofs.Scenarios.{length-scenario-of}
-use Rattle.rules.proofs.Bounds.{prefix-bound-whole}
-use Rattle.rules.proofs.Steps.{first_passes, first-none}
-use Rattle.rules.proofs.Compared.{cost-reflexive, cost-total, cost-transitive}
-use Rattle.rules.proofs.Assignments.{fits_by, below-scenario-by, cost-scenario-by, some-lawful}
-use Rattle.rules.proofs.Refuted.{fitting-whole, refuted-above}
+use Rattle.rules.specs.Steps.{Rules, Position, position, unfit, refuted, looked_at, best_cost, shortest, step, total, opening, finished, advance, taken}
+use Rattle.rules.specs.Soundness.{codes_of, scenario_by, cost_by, Sound, StepKeeps, SearchKeeps, SearchSound, rules}
+use Rattle.rules.proofs.Orders.{index_same, in_order, length_digits, below_digits, index_digits, below_zeros, index_zeros, shares_prefix, past_beyond, past_within}
+use Rattle.rules.proofs.Scenarios.{length_scenario_of}
+use Rattle.rules.proofs.Bounds.{prefix_bound_whole}
+use Rattle.rules.proofs.Steps.{first_passes, first_none}
+use Rattle.rules.proofs.Compared.{cost_reflexive, cost_total, cost_transitive}
+use Rattle.rules.proofs.Assignments.{fits_by, below_scenario_by, cost_scenario_by, some_lawful}
+use Rattle.rules.proofs.Refuted.{fitting_whole, refuted_above}
 
 module _ {V C : Type 0} (m : Meaning V) (laws : Laws m) (fit : ℕ → ℕ → ℕ → Bool) (decides : (c d e : ℕ) → Decides (fit c d e) (Fits m c d e))
     (j : Joining Claim C) (monoid : Monoid j) (at_most : C → C → Bool) (ranking : Ranking j at_most)
     (n : ℕ) (rows : List Row) (proper : Proper n rows) where
   -- The rules of this kind and this tally.
-  abbrev the-rules : Rules C
-  the-rules = rules m fit j at_most
+  abbrev the_rules : Rules C
+  the_rules = rules m fit j at_most
 
   -- A search stays sound as its cursor moves past a refuted prefix.
-  past-sound : (s : Position) → Sound m the-rules n rows s → s.cursor < total the-rules n → (q : ℕ) → q ≤ pairs n
-      → refuted the-rules n rows (best-cost the-rules rows s) (looked-at the-rules n s) q ≡ true
-      → Sound m the-rules n rows (position s.incumbent (past m.codes (pairs n) q s.cursor))
-  past-sound s sound room q qp bad =
+  past_sound : (s : Position) → Sound m the_rules n rows s → s.cursor < total the_rules n → (q : ℕ) → q ≤ pairs n
+      → refuted the_rules n rows (best_cost the_rules rows s) (looked_at the_rules n s) q ≡ true
+      → Sound m the_rules n rows (position s.incumbent (past m.codes (pairs n) q s.cursor))
+  past_sound s sound room q qp bad =
       let b : ℕ = m.codes in
-      let pos : 0 < m.codes = laws.some-codes in
+      let pos : 0 < m.codes = laws.some_codes in
       record {
         long = sound.long;
         codes = sound.codes;
         fitting = sound.fitting;
-        within = past-within b (pairs n) q s.cursor pos qp room;
-        behind = omega (arith, past-beyond b (pairs n) q s.cursor pos, sound.behind);
-        best = λ x law before. elim (cases_lt (index b (scenario-by m n x)) s.cursor) [
+        within = past_within b (pairs n) q s.cursor pos qp room;
+        behind = omega (arith, past_beyond b (pairs n) q s.cursor pos, sound.behind);
+        best = λ x law before. elim (cases_lt (index b (scenario_by m n x)) s.cursor) [
           | inl old ↦ sound.best x law old
-          | inr new ↦ refuted-above m laws fit decides j monoid at_most ranking n rows proper (entry s.incumbent) (digits b (pairs n) s.cursor) q qp bad x law
-              (shares-prefix b (pairs n) q s.cursor (scenario-by m n x) pos qp room (below-scenario-by m laws n x law)
-              (length-scenario-of (codes-of m x) n) new before)
+          | inr new ↦ refuted_above m laws fit decides j monoid at_most ranking n rows proper (entry s.incumbent) (digits b (pairs n) s.cursor) q qp bad x law
+              (shares_prefix b (pairs n) q s.cursor (scenario_by m n x) pos qp room (below_scenario_by m laws n x law)
+              (length_scenario_of (codes_of m x) n) new before)
         ];
         first = sound.first;
       }
 
   -- A search stays sound as a scenario of which no prefix is refuted becomes the incumbent.
-  improved-sound : (s : Position) → Sound m the-rules n rows s → s.cursor < total the-rules n
-      → refuted the-rules n rows (best-cost the-rules rows s) (looked-at the-rules n s) (pairs n) ≡ false
-      → Sound m the-rules n rows (position (looked-at the-rules n s) (s.cursor + 1))
-  improved-sound s sound room good =
+  improved_sound : (s : Position) → Sound m the_rules n rows s → s.cursor < total the_rules n
+      → refuted the_rules n rows (best_cost the_rules rows s) (looked_at the_rules n s) (pairs n) ≡ false
+      → Sound m the_rules n rows (position (looked_at the_rules n s) (s.cursor + 1))
+  improved_sound s sound room good =
       let b : ℕ = m.codes in
       let p : ℕ = pairs n in
-      let pos : 0 < m.codes = laws.some-codes in
+      let pos : 0 < m.codes = laws.some_codes in
       let old : ℕ → ℕ → ℕ = entry s.incumbent in
       let a : List ℕ = digits b p s.cursor in
       let long : length a ≡ p = length_digits b p s.cursor in
-      let low : Below m.codes a = below-digits b p s.cursor pos in
-      let number : index b a ≡ s.cursor = index-digits b p s.cursor pos room in
-      let both = or_parts (unfit the-rules n p a) (at_most (cost j rows old) (prefix-bound j at_most b p rows p a)) good in
+      let low : Below m.codes a = below_digits b p s.cursor pos in
+      let number : index b a ≡ s.cursor = index_digits b p s.cursor pos room in
+      let both = or_parts (unfit the_rules n p a) (at_most (cost j rows old) (prefix_bound j at_most b p rows p a)) good in
       let over : at_most (cost j rows old) (cost j rows (entry a)) ≡ false =
-      subst (λ (z : C). at_most (cost j rows old) z ≡ false) (prefix-bound-whole j monoid at_most n rows proper b a) both.1 in
-      let better = cost-total j monoid at_most ranking n rows proper old (entry a) over in
+      subst (λ (z : C). at_most (cost j rows old) z ≡ false) (prefix_bound_whole j monoid at_most n rows proper b a) both.1 in
+      let better = cost_total j monoid at_most ranking n rows proper old (entry a) over in
       record {
         long = long;
         codes = low;
-        fitting = fitting-whole m laws fit decides j monoid at_most ranking n rows proper a long low both.0;
+        fitting = fitting_whole m laws fit decides j monoid at_most ranking n rows proper a long low both.0;
         within = omega arith;
         behind = omega (arith, number);
-        best = λ x law before. elim (cases_lt (index b (scenario-by m n x)) s.cursor) [
-          | inl earlier ↦ cost-transitive j monoid at_most ranking n rows proper (entry a) old (codes-of m x) better (sound.best x law earlier)
-          | inr here ↦ (let at-cursor : index b (scenario-by m n x) ≡ s.cursor = omega arith in
-              let same : scenario-by m n x ≡ a =
-              index_same b (scenario-by m n x) a (below-scenario-by m laws n x law) low (length-scenario-of (codes-of m x) n ∙ sym long) (at-cursor ∙ sym number) in
-              subst (λ (z : C). at_most (cost j rows (entry a)) z ≡ true) (ap (λ (e : List ℕ). cost j rows (entry e)) (sym same) ∙ cost-scenario-by m j n rows proper x)
-              (cost-reflexive j monoid at_most ranking n rows proper (entry a)))
+        best = λ x law before. elim (cases_lt (index b (scenario_by m n x)) s.cursor) [
+          | inl earlier ↦ cost_transitive j monoid at_most ranking n rows proper (entry a) old (codes_of m x) better (sound.best x law earlier)
+          | inr here ↦ (let at_cursor : index b (scenario_by m n x) ≡ s.cursor = omega arith in
+              let same : scenario_by m n x ≡ a =
+              index_same b (scenario_by m n x) a (below_scenario_by m laws n x law) low (length_scenario_of (codes_of m x) n ∙ sym long) (at_cursor ∙ sym number) in
+              subst (λ (z : C). at_most (cost j rows (entry a)) z ≡ true) (ap (λ (e : List ℕ). cost j rows (entry e)) (sym same) ∙ cost_scenario_by m j n rows proper x)
+              (cost_reflexive j monoid at_most ranking n rows proper (entry a)))
         ];
         first = λ x law before.
-            let lower : index b (scenario-by m n x) < index b a =
-            (in_order b (scenario-by m n x) a (below-scenario-by m laws n x law) low (length-scenario-of (codes-of m x) n ∙ sym long)).0 before in
-            elim (cases_Bool (at_most (cost-by m j rows x) (cost j rows (entry a)))) [
+            let lower : index b (scenario_by m n x) < index b a =
+            (in_order b (scenario_by m n x) a (below_scenario_by m laws n x law) low (length_scenario_of (codes_of m x) n ∙ sym long)).0 before in
+            elim (cases_Bool (at_most (cost_by m j rows x) (cost j rows (entry a)))) [
               | inl tie ↦ absurd (both_ways (at_most (cost j rows old) (cost j rows (entry a))) over
-                  (cost-transitive j monoid at_most ranking n rows proper old (codes-of m x) (entry a) (sound.best x law (omega arith)) tie))
+                  (cost_transitive j monoid at_most ranking n rows proper old (codes_of m x) (entry a) (sound.best x law (omega arith)) tie))
               | inr more ↦ more
             ];
       }
 
   -- A step keeps a search sound and moves its cursor on.
-  pub step_keeps : (s : Position) → Sound m the-rules n rows s → s.cursor < total the-rules n
-      → Step-keeps m the-rules n rows s
+  pub step_keeps : (s : Position) → Sound m the_rules n rows s → s.cursor < total the_rules n
+      → StepKeeps m the_rules n rows s
   step_keeps s sound room =
-      let q : ℕ = shortest the-rules n rows s in
-      let bad : ℕ → Bool = refuted the-rules n rows (best-cost the-rules rows s) (looked-at the-rules n s) in
+      let q : ℕ = shortest the_rules n rows s in
+      let bad : ℕ → Bool = refuted the_rules n rows (best_cost the_rules rows s) (looked_at the_rules n s) in
       let skipped : Position = position s.incumbent (past m.codes (pairs n) q s.cursor) in
-      let improved : Position = position (looked-at the-rules n s) (s.cursor + 1) in
-      let kept : Sound m the-rules n rows (step the-rules n rows s) × (s.cursor < (step the-rules n rows s).cursor) =
-      cond_both (leb q (pairs n)) skipped improved (λ (t : Position). Sound m the-rules n rows t × (s.cursor < t.cursor))
+      let improved : Position = position (looked_at the_rules n s) (s.cursor + 1) in
+      let kept : Sound m the_rules n rows (step the_rules n rows s) × (s.cursor < (step the_rules n rows s).cursor) =
+      cond_both (leb q (pairs n)) skipped improved (λ (t : Position). Sound m the_rules n rows t × (s.cursor < t.cursor))
       (λ e. let qp : q ≤ pairs n = leb-true q (pairs n) e in
-      (past-sound s sound room q qp (first_passes bad (pairs n + 1) 0 (omega arith)), past-beyond m.codes (pairs n) q s.cursor laws.some-codes))
+      (past_sound s sound room q qp (first_passes bad (pairs n + 1) 0 (omega arith)), past_beyond m.codes (pairs n) q s.cursor laws.some_codes))
       (λ e. let pq : pairs n < q = leb-false q (pairs n) e in
-      (improved-sound s sound room (first-none bad (pairs n + 1) 0 (omega arith) (pairs n) (omega arith) (omega arith)), omega arith)) in
+      (improved_sound s sound room (first_none bad (pairs n + 1) 0 (omega arith) (pairs n) (omega arith) (omega arith)), omega arith)) in
       record { sound = kept.0; on = kept.1 }
 
   -- Closing starts a search soundly, if there is a lawful value.
-  opening-sound : (u : V) → m.lawful u → Sound m the-rules n rows (opening n)
-  opening-sound u lawful =
+  opening_sound : (u : V) → m.lawful u → Sound m the_rules n rows (opening n)
+  opening_sound u lawful =
       let b : ℕ = m.codes in
-      let pos : 0 < m.codes = laws.some-codes in
+      let pos : 0 < m.codes = laws.some_codes in
       let zeros : List ℕ = replicate (pairs n) 0 in
       let long : length zeros ≡ pairs n = length-replicate (pairs n) 0 in
-      let low : Below m.codes zeros = below-zeros b (pairs n) pos in
-      let number : index b zeros ≡ 0 = index-zeros b (pairs n) in
+      let low : Below m.codes zeros = below_zeros b (pairs n) pos in
+      let number : index b zeros ≡ 0 = index_zeros b (pairs n) in
       let self : 0 ≡ m.relation u u = (laws.one u u lawful lawful).only 0 (laws.self u lawful) in
-      let at : (i k : ℕ) → i < k → k < n → 0 ≡ entry zeros i k = λ i k ik kn. sym (get_or-replicate (pairs n) (place i k) 0 0 (place-within i k n ik kn)) in
+      let at : (i k : ℕ) → i < k → k < n → 0 ≡ entry zeros i k = λ i k ik kn. sym (get_or-replicate (pairs n) (place i k) 0 0 (place_within i k n ik kn)) in
       record {
         long = long;
         codes = low;
@@ -130,38 +130,38 @@ module _ {V C : Type 0} (m : Meaning V) (laws : Laws m) (fit : ℕ → ℕ → �
         within = one-le-pow (pairs n) b pos;
         behind = omega (arith, number);
         best = λ x law before.
-            let first-number : index b (scenario-by m n x) ≡ 0 = omega arith in
-            let same : scenario-by m n x ≡ zeros =
-            index_same b (scenario-by m n x) zeros (below-scenario-by m laws n x law) low (length-scenario-of (codes-of m x) n ∙ sym long) (first-number ∙ sym number) in
-            subst (λ (z : C). at_most (cost j rows (entry zeros)) z ≡ true) (ap (λ (e : List ℕ). cost j rows (entry e)) (sym same) ∙ cost-scenario-by m j n rows proper x)
-            (cost-reflexive j monoid at_most ranking n rows proper (entry zeros));
+            let first_number : index b (scenario_by m n x) ≡ 0 = omega arith in
+            let same : scenario_by m n x ≡ zeros =
+            index_same b (scenario_by m n x) zeros (below_scenario_by m laws n x law) low (length_scenario_of (codes_of m x) n ∙ sym long) (first_number ∙ sym number) in
+            subst (λ (z : C). at_most (cost j rows (entry zeros)) z ≡ true) (ap (λ (e : List ℕ). cost j rows (entry e)) (sym same) ∙ cost_scenario_by m j n rows proper x)
+            (cost_reflexive j monoid at_most ranking n rows proper (entry zeros));
         first = λ x law before. absurd (omega (
           arith,
           number,
-          (in_order b (scenario-by m n x) zeros (below-scenario-by m laws n x law) low (length-scenario-of (codes-of m x) n ∙ sym long)).0 before,
+          (in_order b (scenario_by m n x) zeros (below_scenario_by m laws n x law) low (length_scenario_of (codes_of m x) n ∙ sym long)).0 before,
         ));
       }
 
   -- A search of up to k steps keeps it sound.
-  pub search-keeps : (k : ℕ) (s : Position) → Sound m the-rules n rows s → Search-keeps m the-rules n rows k s
-  search-keeps zero s sound = record { sound = sound; on = omega arith; all = λ h. refl; most = omega arith }
-  search-keeps (suc k) s sound =
-      let next : Position = step the-rules n rows s in
-      let Kept : Position → ℕ → Type 0 = λ p t. Sound m the-rules n rows p × (s.cursor + t ≤ p.cursor) × (p.cursor < total the-rules n → t ≡ suc k) × (t ≤ suc k) in
-      let kept : Kept (advance the-rules n rows (suc k) s) (taken the-rules n rows (suc k) s) =
-      elim (cases_Bool (finished the-rules n s)) [
-        | inl e ↦ simp e (sound, omega arith, λ h. absurd (omega (arith, leb-true (total the-rules n) s.cursor e)), omega arith)
-        | inr e ↦ (let one = step_keeps s sound (leb-false (total the-rules n) s.cursor e) in
-            let rest = search-keeps k next one.sound in
+  pub search_keeps : (k : ℕ) (s : Position) → Sound m the_rules n rows s → SearchKeeps m the_rules n rows k s
+  search_keeps zero s sound = record { sound = sound; on = omega arith; all = λ h. refl; most = omega arith }
+  search_keeps (suc k) s sound =
+      let next : Position = step the_rules n rows s in
+      let Kept : Position → ℕ → Type 0 = λ p t. Sound m the_rules n rows p × (s.cursor + t ≤ p.cursor) × (p.cursor < total the_rules n → t ≡ suc k) × (t ≤ suc k) in
+      let kept : Kept (advance the_rules n rows (suc k) s) (taken the_rules n rows (suc k) s) =
+      elim (cases_Bool (finished the_rules n s)) [
+        | inl e ↦ simp e (sound, omega arith, λ h. absurd (omega (arith, leb-true (total the_rules n) s.cursor e)), omega arith)
+        | inr e ↦ (let one = step_keeps s sound (leb-false (total the_rules n) s.cursor e) in
+            let rest = search_keeps k next one.sound in
             simp e (rest.sound, omega (arith, one.on, rest.on), λ h. ap suc (rest.all h), omega (arith, rest.most)))
       ] in
       record { sound = kept.0; on = kept.1; all = kept.2; most = kept.3 }
 
 -- The theorem on the search.
-pub search-sound : {V C : Type 0} (m : Meaning V) → Laws m → (fit : ℕ → ℕ → ℕ → Bool) → ((c d e : ℕ) → Decides (fit c d e) (Fits m c d e))
+pub search_sound : {V C : Type 0} (m : Meaning V) → Laws m → (fit : ℕ → ℕ → ℕ → Bool) → ((c d e : ℕ) → Decides (fit c d e) (Fits m c d e))
     → (values : ℕ → List ℕ → ℕ → V) → Realisation m values → (j : Joining Claim C) → Monoid j → (at_most : C → C → Bool) → Ranking j at_most
-    → Search-sound m (rules m fit j at_most)
-search-sound m laws fit decides values realises j monoid at_most ranking n rows proper = (
-  opening-sound m laws fit decides j monoid at_most ranking n rows proper (values 1 [] 0) (some-lawful m values realises),
-  search-keeps m laws fit decides j monoid at_most ranking n rows proper,
+    → SearchSound m (rules m fit j at_most)
+search_sound m laws fit decides values realises j monoid at_most ranking n rows proper = (
+  opening_sound m laws fit decides j monoid at_most ranking n rows proper (values 1 [] 0) (some_lawful m values realises),
+  search_keeps m laws fit decides j monoid at_most ranking n rows proper,
 )

@@ -8,9 +8,9 @@ column f j zero = []
 column f j (suc i) = column f j i ++ (f i j ∷ [])
 
 -- those of all pairs of n items, in their order: (0, 1), (0, 2), (1, 2), (0, 3), and so on
-abbrev pub scenario-of : (ℕ → ℕ → ℕ) → ℕ → List ℕ
-scenario-of f zero = []
-scenario-of f (suc j) = scenario-of f j ++ column f j j
+abbrev pub scenario_of : (ℕ → ℕ → ℕ) → ℕ → List ℕ
+scenario_of f zero = []
+scenario_of f (suc j) = scenario_of f j ++ column f j j
 
 -- every code is below b
 abbrev pub Below : ℕ → List ℕ → Type 0
@@ -37,5 +37,5 @@ abbrev pub past : ℕ → ℕ → ℕ → ℕ → ℕ
 past b p q m = (m / b ^ (p - q) + 1) * b ^ (p - q)
 
 -- The number keeps dictionary order.
-abbrev pub In-order : ℕ → Type 0
-In-order b = (a e : List ℕ) → Below b a → Below b e → length a ≡ length e → (Before a e ↔ (index b a < index b e))
+abbrev pub InOrder : ℕ → Type 0
+InOrder b = (a e : List ℕ) → Below b a → Below b e → length a ≡ length e → (Before a e ↔ (index b a < index b e))

@@ -5,13 +5,13 @@ use Rattle.rules.specs.declared.row.Row.{Row}
 abbrev pub between : ℕ → ℕ → ℕ → Bool
 between low high x = nat_le low x && nat_le x high
 
-abbrev pub row-proper : ℕ → Row → Bool
-row-proper n r = nat_lt r.low r.high && (nat_lt r.high n && (between 1 1000 r.weight && between 1 20 r.person))
+abbrev pub row_proper : ℕ → Row → Bool
+row_proper n r = nat_lt r.low r.high && (nat_lt r.high n && (between 1 1000 r.weight && between 1 20 r.person))
 
-abbrev pub all-proper : ℕ → List Row → Bool
-all-proper n [] = true
-all-proper n (r ∷ rs) = row-proper n r && all-proper n rs
+abbrev pub all_proper : ℕ → List Row → Bool
+all_proper n [] = true
+all_proper n (r ∷ rs) = row_proper n r && all_proper n rs
 
 -- and there are at most 256 rows
 abbrev pub proper : ℕ → List Row → Bool
-proper n rows = nat_le (length rows) 256 && all-proper n rows
+proper n rows = nat_le (length rows) 256 && all_proper n rows

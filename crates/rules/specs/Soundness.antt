@@ -7,24 +7,24 @@ use Rattle.tallies.specs.Joins.{Joining}
 use Rattle.tallies.specs.declared.claim.Claim.{Claim}
 use Rattle.rules.specs.declared.row.Row.{Row}
 use Rattle.rules.specs.Rows.{Proper}
-use Rattle.rules.specs.Costs.{of-rows, cost, charge, pair-cost, sheet-bound}
-use Rattle.rules.specs.Orders.{scenario-of, Below, Before, index}
-use Rattle.rules.specs.Steps.{Rules, Position, best-cost, total, step, opening, advance, taken}
+use Rattle.rules.specs.Costs.{of_rows, cost, charge, pair_cost, sheet_bound}
+use Rattle.rules.specs.Orders.{scenario_of, Below, Before, index}
+use Rattle.rules.specs.Steps.{Rules, Position, best_cost, total, step, opening, advance, taken}
 
 -- An assignment gives each of n items a lawful value.
 abbrev pub Assignment : {V : Type 0} → Meaning V → ℕ → (ℕ → V) → Type 0
 Assignment m n x = (i : ℕ) → i < n → m.lawful (x i)
 
 -- the base relations that hold between the values, and the scenario of n of them
-abbrev pub codes-of : {V : Type 0} → Meaning V → (ℕ → V) → ℕ → ℕ → ℕ
-codes-of m x i j = m.relation (x i) (x j)
+abbrev pub codes_of : {V : Type 0} → Meaning V → (ℕ → V) → ℕ → ℕ → ℕ
+codes_of m x i j = m.relation (x i) (x j)
 
-abbrev pub scenario-by : {V : Type 0} → Meaning V → ℕ → (ℕ → V) → List ℕ
-scenario-by m n x = scenario-of (codes-of m x) n
+abbrev pub scenario_by : {V : Type 0} → Meaning V → ℕ → (ℕ → V) → List ℕ
+scenario_by m n x = scenario_of (codes_of m x) n
 
 -- The cost of an assignment: the join of the penalties of the counting statements that it breaks.
-abbrev pub cost-by : {V C : Type 0} → Meaning V → Joining Claim C → List Row → (ℕ → V) → C
-cost-by m j rows x = cost j rows (codes-of m x)
+abbrev pub cost_by : {V C : Type 0} → Meaning V → Joining Claim C → List Row → (ℕ → V) → C
+cost_by m j rows x = cost j rows (codes_of m x)
 
 -- The invariant of a search.
 pub record Sound {V C : Type 0} (m : Meaning V) (r : Rules C) (n : ℕ) (rows : List Row) (s : Position) : Type 0 where
@@ -36,17 +36,17 @@ pub record Sound {V C : Type 0} (m : Meaning V) (r : Rules C) (n : ℕ) (rows : 
   pub within : s.cursor ≤ total r n
   pub behind : index r.codes s.incumbent < s.cursor
   -- no assignment whose scenario lies before the cursor costs less
-  pub best : (x : ℕ → V) → Assignment m n x → index r.codes (scenario-by m n x) < s.cursor → r.at_most (best-cost r rows s) (cost-by m r.joining rows x) ≡ true
+  pub best : (x : ℕ → V) → Assignment m n x → index r.codes (scenario_by m n x) < s.cursor → r.at_most (best_cost r rows s) (cost_by m r.joining rows x) ≡ true
   -- and each whose scenario lies before the incumbent costs more
-  pub first : (x : ℕ → V) → Assignment m n x → Before (scenario-by m n x) s.incumbent → r.at_most (cost-by m r.joining rows x) (best-cost r rows s) ≡ false
+  pub first : (x : ℕ → V) → Assignment m n x → Before (scenario_by m n x) s.incumbent → r.at_most (cost_by m r.joining rows x) (best_cost r rows s) ≡ false
 
 -- A step keeps it and moves the cursor on.
-pub record Step-keeps {V C : Type 0} (m : Meaning V) (r : Rules C) (n : ℕ) (rows : List Row) (s : Position) : Type 0 where
+pub record StepKeeps {V C : Type 0} (m : Meaning V) (r : Rules C) (n : ℕ) (rows : List Row) (s : Position) : Type 0 where
   pub sound : Sound m r n rows (step r n rows s)
   pub on : s.cursor < (step r n rows s).cursor
 
 -- So does a search of up to k steps.
-pub record Search-keeps {V C : Type 0} (m : Meaning V) (r : Rules C) (n : ℕ) (rows : List Row) (k : ℕ) (s : Position) : Type 0 where
+pub record SearchKeeps {V C : Type 0} (m : Meaning V) (r : Rules C) (n : ℕ) (rows : List Row) (k : ℕ) (s : Position) : Type 0 where
   pub sound : Sound m r n rows (advance r n rows k s)
   -- the cursor moves by as many places as steps are taken, at least
   pub on : s.cursor + taken r n rows k s ≤ (advance r n rows k s).cursor
@@ -55,34 +55,34 @@ pub record Search-keeps {V C : Type 0} (m : Meaning V) (r : Rules C) (n : ℕ) (
   pub most : taken r n rows k s ≤ k
 
 -- The theorem on the search: closing starts it soundly, and every search keeps it so.
-abbrev pub Search-sound : {V C : Type 0} → Meaning V → Rules C → Type 0
-Search-sound m r = (n : ℕ) (rows : List Row) → Proper n rows →
-    Sound m r n rows (opening n) × ((k : ℕ) (s : Position) → Sound m r n rows s → Search-keeps m r n rows k s)
+abbrev pub SearchSound : {V C : Type 0} → Meaning V → Rules C → Type 0
+SearchSound m r = (n : ℕ) (rows : List Row) → Proper n rows →
+    Sound m r n rows (opening n) × ((k : ℕ) (s : Position) → Sound m r n rows s → SearchKeeps m r n rows k s)
 
 -- What is promised of values x that are shown with a cost while a search stands at s, `done` saying whether it has finished.
 pub record Settled {V C : Type 0} (m : Meaning V) (r : Rules C) (n : ℕ) (rows : List Row) (s : Position) (x : ℕ → V) (paid : C) (done : Bool) : Type 0 where
   -- The values are lawful, and the cost is the join of the penalties of exactly the counting statements that they break.
   pub lawful : Assignment m n x
-  pub exact : paid ≡ cost-by m r.joining rows x
+  pub exact : paid ≡ cost_by m r.joining rows x
   -- No assignment whose scenario lies before the cursor costs less.
-  pub so_far : (y : ℕ → V) → Assignment m n y → index r.codes (scenario-by m n y) < s.cursor → r.at_most paid (cost-by m r.joining rows y) ≡ true
+  pub so_far : (y : ℕ → V) → Assignment m n y → index r.codes (scenario_by m n y) < s.cursor → r.at_most paid (cost_by m r.joining rows y) ≡ true
   -- Once the search has finished, no assignment at all costs less.
-  pub least : done ≡ true → (y : ℕ → V) → Assignment m n y → r.at_most paid (cost-by m r.joining rows y) ≡ true
+  pub least : done ≡ true → (y : ℕ → V) → Assignment m n y → r.at_most paid (cost_by m r.joining rows y) ≡ true
   -- Each assignment whose scenario lies before that of x costs more: x is the first of its cost.
-  pub first : (y : ℕ → V) → Assignment m n y → Before (scenario-by m n y) (scenario-by m n x) → r.at_most (cost-by m r.joining rows y) paid ≡ false
+  pub first : (y : ℕ → V) → Assignment m n y → Before (scenario_by m n y) (scenario_by m n x) → r.at_most (cost_by m r.joining rows y) paid ≡ false
 
 -- The lower bound of a sheet is at most the cost of each of its assignments.
-abbrev pub Bound-below : {V C : Type 0} → Meaning V → Rules C → Type 0
-Bound-below {V = V} m r = (n : ℕ) (rows : List Row) → Proper n rows → (y : ℕ → V) → Assignment m n y
-    → r.at_most (sheet-bound r.joining r.at_most r.codes n rows) (cost-by m r.joining rows y) ≡ true
+abbrev pub BoundBelow : {V C : Type 0} → Meaning V → Rules C → Type 0
+BoundBelow {V = V} m r = (n : ℕ) (rows : List Row) → Proper n rows → (y : ℕ → V) → Assignment m n y
+    → r.at_most (sheet_bound r.joining r.at_most r.codes n rows) (cost_by m r.joining rows y) ≡ true
 
 -- The costs of the pairs join to the cost of a scenario.
-abbrev pub Pairs-join : {C : Type 0} → Joining Claim C → Type 0
-Pairs-join j = (n : ℕ) (rows : List Row) (a : List ℕ) → Proper n rows → span (of-rows j) (λ s. pair-cost j rows s (slice_index a s)) 0 (pairs n) ≡ cost j rows (entry a)
+abbrev pub PairsJoin : {C : Type 0} → Joining Claim C → Type 0
+PairsJoin j = (n : ℕ) (rows : List Row) (a : List ℕ) → Proper n rows → span (of_rows j) (λ s. pair_cost j rows s (slice_index a s)) 0 (pairs n) ≡ cost j rows (entry a)
 
 -- The charges of the persons 1 to 20 join to the cost.
-abbrev pub Charges-join : {C : Type 0} → Joining Claim C → Type 0
-Charges-join j = (n : ℕ) (rows : List Row) (f : ℕ → ℕ → ℕ) → Proper n rows → span (of-rows j) (charge j rows f) 1 20 ≡ cost j rows f
+abbrev pub ChargesJoin : {C : Type 0} → Joining Claim C → Type 0
+ChargesJoin j = (n : ℕ) (rows : List Row) (f : ℕ → ℕ → ℕ) → Proper n rows → span (of_rows j) (charge j rows f) 1 20 ≡ cost j rows f
 
 -- the rules of a kind and a tally
 abbrev pub rules : {V C : Type 0} → Meaning V → (ℕ → ℕ → ℕ → Bool) → Joining Claim C → (C → C → Bool) → Rules C

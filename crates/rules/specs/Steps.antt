@@ -4,7 +4,7 @@ use Rattle.points.specs.Scenarios.{pairs, place, entry}
 use Rattle.tallies.specs.Joins.{Joining}
 use Rattle.tallies.specs.declared.claim.Claim.{Claim}
 use Rattle.rules.specs.declared.row.Row.{Row}
-use Rattle.rules.specs.Costs.{cost, prefix-bound}
+use Rattle.rules.specs.Costs.{cost, prefix_bound}
 use Rattle.rules.specs.Orders.{digits, past}
 
 -- What a search needs to know of a kind and a tally: the number of codes; which triples fit, by the codes of (i, j), (j, k) and (i, k);
@@ -34,7 +34,7 @@ unfit r n q a = some n (λ k. some k (λ j. some j (λ i. nat_lt (place j k) q &
 
 -- A prefix of q codes is refuted against the cost of the incumbent: a triple in it does not fit, or its lower bound is not below that cost.
 abbrev pub refuted : {C : Type 0} → Rules C → ℕ → List Row → C → List ℕ → ℕ → Bool
-refuted r n rows best a q = unfit r n q a || r.at_most best (prefix-bound r.joining r.at_most r.codes (pairs n) rows q a)
+refuted r n rows best a q = unfit r n q a || r.at_most best (prefix_bound r.joining r.at_most r.codes (pairs n) rows q a)
 
 -- The first of q, .., q + m - 1 that passes, or q + m.
 abbrev pub first_passing : (ℕ → Bool) → ℕ → ℕ → ℕ
@@ -42,21 +42,21 @@ first_passing f zero q = q
 first_passing f (suc m) q = cond (f q) q (first_passing f m (suc q))
 
 -- the scenario at the cursor, the cost of the incumbent, and the length of the shortest refuted prefix, or one more than there are pairs
-abbrev pub looked-at : {C : Type 0} → Rules C → ℕ → Position → List ℕ
-looked-at r n s = digits r.codes (pairs n) s.cursor
+abbrev pub looked_at : {C : Type 0} → Rules C → ℕ → Position → List ℕ
+looked_at r n s = digits r.codes (pairs n) s.cursor
 
-abbrev pub best-cost : {C : Type 0} → Rules C → List Row → Position → C
-best-cost r rows s = cost r.joining rows (entry s.incumbent)
+abbrev pub best_cost : {C : Type 0} → Rules C → List Row → Position → C
+best_cost r rows s = cost r.joining rows (entry s.incumbent)
 
 abbrev pub shortest : {C : Type 0} → Rules C → ℕ → List Row → Position → ℕ
-shortest r n rows s = first_passing (refuted r n rows (best-cost r rows s) (looked-at r n s)) (pairs n + 1) 0
+shortest r n rows s = first_passing (refuted r n rows (best_cost r rows s) (looked_at r n s)) (pairs n + 1) 0
 
 -- One step: past all scenarios that share the shortest refuted prefix; or, if none is refuted, the scenario becomes the incumbent and
 -- the cursor moves by one.
 abbrev pub step : {C : Type 0} → Rules C → ℕ → List Row → Position → Position
 step r n rows s = cond (nat_le (shortest r n rows s) (pairs n))
     (position s.incumbent (past r.codes (pairs n) (shortest r n rows s) s.cursor))
-    (position (looked-at r n s) (s.cursor + 1))
+    (position (looked_at r n s) (s.cursor + 1))
 
 -- how many scenarios there are
 abbrev pub total : {C : Type 0} → Rules C → ℕ → ℕ

@@ -1,6 +1,6 @@
 // MAX-QCN, for any kind.
 ghost use Rattle.std.specs.Prelude.{◌≡◌};
-ghost use Rattle.rules.specs.Networks.{Costs-count, Max-QCN};
+ghost use Rattle.rules.specs.Networks.{CostsCount, MaxQcn};
 
 use kinds::kind::Kind;
 
@@ -9,8 +9,8 @@ use kinds::kind::Kind;
 /// few constraints unsatisfied as any values can, and their cost is how many: they solve MAX-QCN.
 pub fn max_qcn<K: Kind>() -> u8
     ensures weight { result ≡ 1 }
-    ensures costs { Costs-count }
-    ensures solves { Max-QCN K.Kind.meaning K.Kind.fit }
+    ensures costs { CostsCount }
+    ensures solves { MaxQcn K.Kind.meaning K.Kind.fit }
 {
     1
 }

@@ -1,8 +1,8 @@
 // The rows of a sheet.
 ghost use Rattle.std.specs.Prelude.{◌≡◌, Bool, true, false, ◌&&◌, if◌then◌else◌, ◌==◌};
 ghost use Rattle.points.specs.Scenarios.{entry as entry_of};
-ghost use Rattle.rules.specs.Rows.{claim-of, counts, breaks as breaks-of, spot as spot_of_lem};
-ghost use Rattle.rules.specs.Properly.{row-proper};
+ghost use Rattle.rules.specs.Rows.{claim_of, counts, breaks as breaks_of, spot as spot_of_lem};
+ghost use Rattle.rules.specs.Properly.{row_proper};
 
 use points::scenario::{entry, place};
 use points::set::contains;
@@ -25,7 +25,7 @@ pub struct Row {
 impl Row {
     /// Whether the row is one of a sheet with so many items.
     pub fn is_proper(self, items: u8) -> bool
-        ensures { result ≡ row-proper items self }
+        ensures { result ≡ row_proper items self }
     {
         self.low < self.high
             && self.high < items
@@ -37,35 +37,35 @@ impl Row {
 
     /// Whether the row counts and is broken where its pair has the code.
     pub fn is_broken(self, code: u8) -> bool
-        ensures { result ≡ (counts self && breaks-of self code) }
+        ensures { result ≡ (counts self && breaks_of self code) }
     {
         !self.struck && !contains(self.set, code)
     }
 
     /// Whether the row counts and is broken by the scenario.
     pub fn is_broken_in(self, scenario: &[u8]) -> bool
-        ensures { result ≡ (counts self && breaks-of self (entry_of scenario.now self.low self.high)) }
+        ensures { result ≡ (counts self && breaks_of self (entry_of scenario.now self.low self.high)) }
     {
         self.is_broken(entry(scenario, self.low, self.high))
     }
 
     /// The same of a row by the person.
     pub fn is_charged_in(self, scenario: &[u8], person: u8) -> bool
-        ensures { result ≡ (counts self && (breaks-of self (entry_of scenario.now self.low self.high) && self.person == person)) }
+        ensures { result ≡ (counts self && (breaks_of self (entry_of scenario.now self.low self.high) && self.person == person)) }
     {
         self.is_broken_in(scenario) && self.person == person
     }
 
     /// The same of a row on the pair at the place, under a code.
     pub fn is_broken_at(self, spot: usize, code: u8) -> bool
-        ensures { result ≡ (counts self && (spot_of_lem self == spot && breaks-of self code)) }
+        ensures { result ≡ (counts self && (spot_of_lem self == spot && breaks_of self code)) }
     {
         place(self.low, self.high) == spot && self.is_broken(code)
     }
 
     /// The cost joined with the penalty of the row, if it is to be added.
     pub fn added<J: Joins>(self, cost: J::Cost, adds: bool) -> J::Cost
-        ensures { result ≡ (if adds then J.Joins.joining.join cost (J.Joins.joining.penalty (claim-of self)) else cost) }
+        ensures { result ≡ (if adds then J.Joins.joining.join cost (J.Joins.joining.penalty (claim_of self)) else cost) }
     {
         if adds {
             let claim = Claim {

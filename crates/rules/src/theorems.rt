@@ -1,7 +1,7 @@
 // The theorems on the search, for any kind and any tally.
 ghost use Rattle.std.specs.Prelude.{◌≡◌, ℕ};
-ghost use Rattle.rules.specs.Orders.{In-order};
-ghost use Rattle.rules.specs.Soundness.{Search-sound, Bound-below, Pairs-join, Charges-join, rules};
+ghost use Rattle.rules.specs.Orders.{InOrder};
+ghost use Rattle.rules.specs.Soundness.{SearchSound, BoundBelow, PairsJoin, ChargesJoin, rules};
 
 use kinds::kind::Kind;
 use tallies::tally::Tally;
@@ -11,11 +11,11 @@ use tallies::tally::Tally;
 /// lower bound of a sheet is at most the cost of each assignment.
 pub fn sound<K: Kind, T: Tally>() -> u8
     ensures persons { result ≡ 20 }
-    ensures search { Search-sound K.Kind.meaning (rules K.Kind.meaning K.Kind.fit T.Joins.joining T.Tally.order) }
-    ensures bound { Bound-below K.Kind.meaning (rules K.Kind.meaning K.Kind.fit T.Joins.joining T.Tally.order) }
-    ensures pairs { Pairs-join T.Joins.joining }
-    ensures charges { Charges-join T.Joins.joining }
-    ensures order { (b : ℕ) → In-order b }
+    ensures search { SearchSound K.Kind.meaning (rules K.Kind.meaning K.Kind.fit T.Joins.joining T.Tally.order) }
+    ensures bound { BoundBelow K.Kind.meaning (rules K.Kind.meaning K.Kind.fit T.Joins.joining T.Tally.order) }
+    ensures pairs { PairsJoin T.Joins.joining }
+    ensures charges { ChargesJoin T.Joins.joining }
+    ensures order { (b : ℕ) → InOrder b }
 {
     20
 }

@@ -5,7 +5,7 @@ use Rattle.rules.specs.Steps.{Rules}
 use Rattle.runs.specs.declared.call.Call.{Call}
 use Rattle.runs.specs.declared.answer.Answer.{Answer}
 use Rattle.runs.specs.Models.{Model, next, after}
-use Rattle.runs.specs.Answers.{Answers-call, Answers-script}
+use Rattle.runs.specs.Answers.{AnswersCall, AnswersScript}
 use Rattle.runs.specs.Law.{At}
 
 -- Two that stand at one place are one.
@@ -19,17 +19,17 @@ module _ {V C : Type 0} (m : Meaning V) (values : ℕ → List ℕ → ℕ → V
   pub record Made (x : Model) (calls : List Call) (i : ℕ) (a : Answer V C) : Type 0 where
     pub call : Call
     pub stands : At calls i call
-    pub fits : Answers-call m values r (after m r x (take i calls)) call a
+    pub fits : AnswersCall m values r (after m r x (take i calls)) call a
 
-  pub made : (x : Model) (calls : List Call) (answers : List (Answer V C)) → Answers-script m values r x calls answers → (i : ℕ) (a : Answer V C) → At answers i a → Made x calls i a
+  pub made : (x : Model) (calls : List Call) (answers : List (Answer V C)) → AnswersScript m values r x calls answers → (i : ℕ) (a : Answer V C) → At answers i a → Made x calls i a
   made x [] [] w i a h = absurd h
   made x [] (b ∷ bs) w i a h = absurd w
   made x (c ∷ cs) [] w i a h = absurd h
-  made x (c ∷ cs) (b ∷ bs) w zero a h = record { call = c; stands = refl; fits = subst (λ (z : Answer V C). Answers-call m values r x c z) h w.0 }
+  made x (c ∷ cs) (b ∷ bs) w zero a h = record { call = c; stands = refl; fits = subst (λ (z : Answer V C). AnswersCall m values r x c z) h w.0 }
   made x (c ∷ cs) (b ∷ bs) w (suc i) a h = let rest = made (next m r x c) cs bs w.1 i a h in record { call = rest.call; stands = rest.stands; fits = rest.fits }
 
   -- There are as many answers as calls.
-  pub as_long : (x : Model) (calls : List Call) (answers : List (Answer V C)) → Answers-script m values r x calls answers → length answers ≡ length calls
+  pub as_long : (x : Model) (calls : List Call) (answers : List (Answer V C)) → AnswersScript m values r x calls answers → length answers ≡ length calls
   as_long x [] [] w = refl
   as_long x [] (b ∷ bs) w = absurd w
   as_long x (c ∷ cs) [] w = absurd w

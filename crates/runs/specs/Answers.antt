@@ -3,18 +3,18 @@ use Rattle.std.specs.Prelude.{◌≡◌, ℕ, ◌+◌, ◌<◌, List, [], ◌∷
 use Rattle.points.specs.Scenarios.{entry}
 use Rattle.kinds.specs.Meaning.{Meaning}
 use Rattle.rules.specs.declared.row.Row.{Row}
-use Rattle.rules.specs.Costs.{cost, charge, sheet-bound}
+use Rattle.rules.specs.Costs.{cost, charge, sheet_bound}
 use Rattle.rules.specs.Steps.{Rules, Position, taken, finished}
 use Rattle.statements.specs.declared.entry.Entry.{Entry}
-use Rattle.statements.specs.Faults.{first-fault}
-use Rattle.statements.specs.Drafts.{size-checks, enter-checks, numbered, strike-checks, reweigh-checks, look-checks}
-use Rattle.statements.specs.Searches.{search-checks, show-checks, charge-checks}
+use Rattle.statements.specs.Faults.{first_fault}
+use Rattle.statements.specs.Drafts.{size_checks, enter_checks, numbered, strike_checks, reweigh_checks, look_checks}
+use Rattle.statements.specs.Searches.{search_checks, show_checks, charge_checks}
 use Rattle.runs.specs.declared.call.Call.{Call}
 use Rattle.runs.specs.declared.call.Call.TheVariants.{Size, Enter, Strike, Reweigh, Look, Close, Search, Show, Charge, Reopen}
 use Rattle.runs.specs.declared.answer.Sight.{Sight}
 use Rattle.runs.specs.declared.answer.Answer.{Answer}
 use Rattle.runs.specs.declared.answer.Answer.TheVariants.{Unmade, Refused, Done, Entered, Looked, Took, Shown, Charged}
-use Rattle.runs.specs.Models.{Model, drafting, closed, by-checks, next}
+use Rattle.runs.specs.Models.{Model, drafting, closed, by_checks, next}
 
 -- what a row says, as it would be entered: items counted from 1
 abbrev pub entry_of : Row → Entry
@@ -26,46 +26,46 @@ module _ {V C : Type 0} (m : Meaning V) (values : ℕ → List ℕ → ℕ → V
   pub record Shows (n : ℕ) (rows : List Row) (s : Position) (sight : Sight V C) : Type 0 where
     pub each : length (vec_items sight.values) ≡ n
     pub written : (i : ℕ) (other : V) → i < n → slice_index_or (vec_items sight.values) i other ≡ values n s.incumbent i
-    pub cost-is : sight.cost ≡ cost r.joining rows (entry s.incumbent)
-    pub floor-is : sight.floor ≡ sheet-bound r.joining r.at_most r.codes n rows
-    pub finished-is : sight.finished ≡ finished r n s
+    pub cost_is : sight.cost ≡ cost r.joining rows (entry s.incumbent)
+    pub floor_is : sight.floor ≡ sheet_bound r.joining r.at_most r.codes n rows
+    pub finished_is : sight.finished ≡ finished r n s
 
   abbrev pub Showing : ℕ → List Row → Position → ℕ → Answer V C → Type 0
   Showing n rows s places Unmade = ⊥
-  Showing n rows s places (Refused f) = first-fault (show-checks n places) ≡ Some f
+  Showing n rows s places (Refused f) = first_fault (show_checks n places) ≡ Some f
   Showing n rows s places Done = ⊥
   Showing n rows s places (Entered i) = ⊥
   Showing n rows s places (Looked e b) = ⊥
   Showing n rows s places (Took t) = ⊥
-  Showing n rows s places (Shown sight) = (first-fault (show-checks n places) ≡ None) × Shows n rows s sight
+  Showing n rows s places (Shown sight) = (first_fault (show_checks n places) ≡ None) × Shows n rows s sight
   Showing n rows s places (Charged c) = ⊥
 
   -- The answer that a call is given.
-  abbrev pub Answers-call : Model → Call → Answer V C → Type 0
-  Answers-call (drafting n rows) (Size k) a = a ≡ by-checks (size-checks k) Done Refused
-  Answers-call (drafting n rows) (Enter e) a = a ≡ by-checks (enter-checks m.codes n rows e) (Entered (length rows + 1)) Refused
-  Answers-call (drafting n rows) (Strike i) a = a ≡ by-checks (strike-checks rows i) Done Refused
-  Answers-call (drafting n rows) (Reweigh i w) a = a ≡ by-checks (reweigh-checks rows i w) Done Refused
-  Answers-call (drafting n rows) (Look i) a = a ≡ by-checks (look-checks rows i) (Looked (entry_of (numbered rows i)) (numbered rows i).struck) Refused
-  Answers-call (drafting n rows) Close a = a ≡ Done
-  Answers-call (drafting n rows) (Search k) a = a ≡ Unmade
-  Answers-call (drafting n rows) (Show places) a = a ≡ Unmade
-  Answers-call (drafting n rows) (Charge p) a = a ≡ Unmade
-  Answers-call (drafting n rows) Reopen a = a ≡ Unmade
-  Answers-call (closed n rows s steps asked) (Size k) a = a ≡ Unmade
-  Answers-call (closed n rows s steps asked) (Enter e) a = a ≡ Unmade
-  Answers-call (closed n rows s steps asked) (Strike i) a = a ≡ Unmade
-  Answers-call (closed n rows s steps asked) (Reweigh i w) a = a ≡ Unmade
-  Answers-call (closed n rows s steps asked) (Look i) a = a ≡ Unmade
-  Answers-call (closed n rows s steps asked) Close a = a ≡ Unmade
-  Answers-call (closed n rows s steps asked) (Search k) a = a ≡ by-checks (search-checks k) (Took (taken r n rows k s)) Refused
-  Answers-call (closed n rows s steps asked) (Show places) a = Showing n rows s places a
-  Answers-call (closed n rows s steps asked) (Charge p) a = a ≡ by-checks (charge-checks p) (Charged (charge r.joining rows (entry s.incumbent) p)) Refused
-  Answers-call (closed n rows s steps asked) Reopen a = a ≡ Done
+  abbrev pub AnswersCall : Model → Call → Answer V C → Type 0
+  AnswersCall (drafting n rows) (Size k) a = a ≡ by_checks (size_checks k) Done Refused
+  AnswersCall (drafting n rows) (Enter e) a = a ≡ by_checks (enter_checks m.codes n rows e) (Entered (length rows + 1)) Refused
+  AnswersCall (drafting n rows) (Strike i) a = a ≡ by_checks (strike_checks rows i) Done Refused
+  AnswersCall (drafting n rows) (Reweigh i w) a = a ≡ by_checks (reweigh_checks rows i w) Done Refused
+  AnswersCall (drafting n rows) (Look i) a = a ≡ by_checks (look_checks rows i) (Looked (entry_of (numbered rows i)) (numbered rows i).struck) Refused
+  AnswersCall (drafting n rows) Close a = a ≡ Done
+  AnswersCall (drafting n rows) (Search k) a = a ≡ Unmade
+  AnswersCall (drafting n rows) (Show places) a = a ≡ Unmade
+  AnswersCall (drafting n rows) (Charge p) a = a ≡ Unmade
+  AnswersCall (drafting n rows) Reopen a = a ≡ Unmade
+  AnswersCall (closed n rows s steps asked) (Size k) a = a ≡ Unmade
+  AnswersCall (closed n rows s steps asked) (Enter e) a = a ≡ Unmade
+  AnswersCall (closed n rows s steps asked) (Strike i) a = a ≡ Unmade
+  AnswersCall (closed n rows s steps asked) (Reweigh i w) a = a ≡ Unmade
+  AnswersCall (closed n rows s steps asked) (Look i) a = a ≡ Unmade
+  AnswersCall (closed n rows s steps asked) Close a = a ≡ Unmade
+  AnswersCall (closed n rows s steps asked) (Search k) a = a ≡ by_checks (search_checks k) (Took (taken r n rows k s)) Refused
+  AnswersCall (closed n rows s steps asked) (Show places) a = Showing n rows s places a
+  AnswersCall (closed n rows s steps asked) (Charge p) a = a ≡ by_checks (charge_checks p) (Charged (charge r.joining rows (entry s.incumbent) p)) Refused
+  AnswersCall (closed n rows s steps asked) Reopen a = a ≡ Done
 
   -- The answers of a whole script, from x on.
-  abbrev pub Answers-script : Model → List Call → List (Answer V C) → Type 0
-  Answers-script x [] [] = Unit {0}
-  Answers-script x [] (a ∷ bs) = ⊥
-  Answers-script x (c ∷ cs) [] = ⊥
-  Answers-script x (c ∷ cs) (a ∷ bs) = Answers-call x c a × Answers-script (next m r x c) cs bs
+  abbrev pub AnswersScript : Model → List Call → List (Answer V C) → Type 0
+  AnswersScript x [] [] = Unit {0}
+  AnswersScript x [] (a ∷ bs) = ⊥
+  AnswersScript x (c ∷ cs) [] = ⊥
+  AnswersScript x (c ∷ cs) (a ∷ bs) = AnswersCall x c a × AnswersScript (next m r x c) cs bs

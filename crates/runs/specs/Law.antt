@@ -3,9 +3,9 @@ use Rattle.std.specs.Prelude.{◌≡◌, ℕ, zero, suc, ◌+◌, ◌-◌, ◌<�
 use Rattle.kinds.specs.Meaning.{Meaning}
 use Rattle.tallies.specs.Groups.{span}
 use Rattle.rules.specs.declared.row.Row.{Row}
-use Rattle.rules.specs.Orders.{In-order}
+use Rattle.rules.specs.Orders.{InOrder}
 use Rattle.rules.specs.Steps.{Rules, Position, total, finished}
-use Rattle.rules.specs.Soundness.{Assignment, cost-by, Settled}
+use Rattle.rules.specs.Soundness.{Assignment, cost_by, Settled}
 use Rattle.runs.specs.declared.call.Call.{Call}
 use Rattle.runs.specs.declared.call.Call.TheVariants.{Size, Enter, Strike, Reweigh, Look, Close, Search, Show, Charge, Reopen}
 use Rattle.runs.specs.declared.answer.Sight.{Sight}
@@ -20,19 +20,19 @@ At (y ∷ ys) zero x = y ≡ x
 At (y ∷ ys) (suc i) x = At ys i x
 
 -- The sheet is closed, and P holds of its items, rows and search.
-abbrev pub On-closed : (ℕ → List Row → Position → Type 0) → Model → Type 0
-On-closed P (drafting n rows) = ⊥
-On-closed P (closed n rows s steps asked) = P n rows s
+abbrev pub OnClosed : (ℕ → List Row → Position → Type 0) → Model → Type 0
+OnClosed P (drafting n rows) = ⊥
+OnClosed P (closed n rows s steps asked) = P n rows s
 
 -- P holds of the search of the sheet, if it is closed, and of the steps taken and asked for.
-abbrev pub While-closed : (ℕ → Position → ℕ → ℕ → Type 0) → Model → Type 0
-While-closed P (drafting n rows) = Unit {0}
-While-closed P (closed n rows s steps asked) = P n s steps asked
+abbrev pub WhileClosed : (ℕ → Position → ℕ → ℕ → Type 0) → Model → Type 0
+WhileClosed P (drafting n rows) = Unit {0}
+WhileClosed P (closed n rows s steps asked) = P n s steps asked
 
 -- where the cursor of a closed sheet is
-abbrev pub cursor-at : Model → ℕ
-cursor-at (drafting n rows) = 0
-cursor-at (closed n rows s steps asked) = s.cursor
+abbrev pub cursor_at : Model → ℕ
+cursor_at (drafting n rows) = 0
+cursor_at (closed n rows s steps asked) = s.cursor
 
 -- How many steps an answer tells of, and whether it tells that a search was accepted.
 abbrev pub steps_of : {V C : Type 0} → Answer V C → ℕ
@@ -45,25 +45,25 @@ steps_of (Took t) = t
 steps_of (Shown sight) = 0
 steps_of (Charged c) = 0
 
-abbrev pub is-took : {V C : Type 0} → Answer V C → Bool
-is-took Unmade = false
-is-took (Refused f) = false
-is-took Done = false
-is-took (Entered i) = false
-is-took (Looked e b) = false
-is-took (Took t) = true
-is-took (Shown sight) = false
-is-took (Charged c) = false
+abbrev pub is_took : {V C : Type 0} → Answer V C → Bool
+is_took Unmade = false
+is_took (Refused f) = false
+is_took Done = false
+is_took (Entered i) = false
+is_took (Looked e b) = false
+is_took (Took t) = true
+is_took (Shown sight) = false
+is_took (Charged c) = false
 
-abbrev pub is-done : {V C : Type 0} → Answer V C → Bool
-is-done Unmade = false
-is-done (Refused f) = false
-is-done Done = true
-is-done (Entered i) = false
-is-done (Looked e b) = false
-is-done (Took t) = false
-is-done (Shown sight) = false
-is-done (Charged c) = false
+abbrev pub is_done : {V C : Type 0} → Answer V C → Bool
+is_done Unmade = false
+is_done (Refused f) = false
+is_done Done = true
+is_done (Entered i) = false
+is_done (Looked e b) = false
+is_done (Took t) = false
+is_done (Shown sight) = false
+is_done (Charged c) = false
 
 -- How many steps an accepted search asks for.
 abbrev pub asks : {V C : Type 0} → Call → Answer V C → ℕ
@@ -73,7 +73,7 @@ asks (Strike i) a = 0
 asks (Reweigh i w) a = 0
 asks (Look i) a = 0
 asks Close a = 0
-asks (Search k) a = cond (is-took a) k 0
+asks (Search k) a = cond (is_took a) k 0
 asks (Show places) a = 0
 asks (Charge p) a = 0
 asks Reopen a = 0
@@ -85,7 +85,7 @@ closes (Enter e) a = false
 closes (Strike i) a = false
 closes (Reweigh i w) a = false
 closes (Look i) a = false
-closes Close a = is-done a
+closes Close a = is_done a
 closes (Search k) a = false
 closes (Show places) a = false
 closes (Charge p) a = false
@@ -101,7 +101,7 @@ reopens Close a = false
 reopens (Search k) a = false
 reopens (Show places) a = false
 reopens (Charge p) a = false
-reopens Reopen a = is-done a
+reopens Reopen a = is_done a
 
 -- The sum of g over the places before i since a draft was last closed, where the sum so far is `sum`; closing a draft sets it to 0.
 abbrev pub since : {V C : Type 0} → (Call → Answer V C → ℕ) → ℕ → List Call → List (Answer V C) → ℕ → ℕ
@@ -131,11 +131,11 @@ pub record Told {V C : Type 0} (calls : List Call) (answers : List (Answer V C))
 module _ {V C : Type 0} (m : Meaning V) (r : Rules C) where
   -- Of what is shown: the values are lawful, one for each item; the cost is the join of the penalties of exactly the counting statements
   -- that they break; no assignment before the cursor costs less, and none at all if it is finished; and they are the first of that cost.
-  pub record Sight-law (sight : Sight V C) (wants : ℕ) (n : ℕ) (rows : List Row) (s : Position) : Type 0 where
+  pub record SightLaw (sight : Sight V C) (wants : ℕ) (n : ℕ) (rows : List Row) (s : Position) : Type 0 where
     pub each : length (vec_items sight.values) ≡ n
     pub settled : (other : V) → Settled m r n rows s (λ i. slice_index_or (vec_items sight.values) i other) sight.cost sight.finished
     -- The lower bound that is shown is at most the cost of any assignment.
-    pub below : (y : ℕ → V) → Assignment m n y → r.at_most sight.floor (cost-by m r.joining rows y) ≡ true
+    pub below : (y : ℕ → V) → Assignment m n y → r.at_most sight.floor (cost_by m r.joining rows y) ≡ true
     -- It is shown as finished once the accepted searches have asked for as many steps as there are scenarios after the first.
     pub ends : total r n - 1 ≤ wants → sight.finished ≡ true
 
@@ -150,22 +150,22 @@ module _ {V C : Type 0} (m : Meaning V) (r : Rules C) where
     pub moved : steps + 1 ≤ s.cursor
     pub bounded : steps ≤ total r n - 1
     pub ends : total r n - 1 ≤ asked → finished r n s ≡ true
-    pub by-script : steps ≡ counted
-    pub asked-script : asked ≡ wants
+    pub by_script : steps ≡ counted
+    pub asked_script : asked ≡ wants
 
   -- The law of a run that starts at x, by its calls and answers.
   pub record Law (x : Model) (calls : List Call) (answers : List (Answer V C)) : Type 0 where
     -- Each call has an answer.
     pub long : length answers ≡ length calls
     -- Cost, so far, least: at each accepted show.
-    pub shown : (i : ℕ) (sight : Sight V C) → At answers i (Shown sight) → On-closed (Sight-law sight (wanted i calls answers)) (after m r x (take i calls))
+    pub shown : (i : ℕ) (sight : Sight V C) → At answers i (Shown sight) → OnClosed (SightLaw sight (wanted i calls answers)) (after m r x (take i calls))
     -- Charges.
     pub charges : Charges calls answers
     -- Progress, at every place: each step answered moves the cursor on by one or more,
-    pub pace : (i t : ℕ) → At answers i (Took t) → cursor-at (after m r x (take i calls)) + t ≤ cursor-at (after m r x (take (suc i) calls))
+    pub pace : (i t : ℕ) → At answers i (Took t) → cursor_at (after m r x (take i calls)) + t ≤ cursor_at (after m r x (take (suc i) calls))
     -- a search takes fewer steps than it is asked for only if it has then finished,
-    pub full : (i k t : ℕ) → At calls i (Search k) → At answers i (Took t) → (t ≤ k) × (t < k → On-closed (λ n rows s. finished r n s ≡ true) (after m r x (take (suc i) calls)))
+    pub full : (i k t : ℕ) → At calls i (Search k) → At answers i (Took t) → (t ≤ k) × (t < k → OnClosed (λ n rows s. finished r n s ≡ true) (after m r x (take (suc i) calls)))
     -- and the steps since closing are bounded.
-    pub progress : (i : ℕ) → i ≤ length calls → While-closed (Going (stepped i calls answers) (wanted i calls answers)) (after m r x (take i calls))
+    pub progress : (i : ℕ) → i ≤ length calls → WhileClosed (Going (stepped i calls answers) (wanted i calls answers)) (after m r x (take i calls))
     -- Numbers of scenarios keep their dictionary order, so that "before the cursor" is an order of scenarios.
-    pub order : In-order r.codes
+    pub order : InOrder r.codes

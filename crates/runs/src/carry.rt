@@ -2,7 +2,7 @@
 ghost use Rattle.std.specs.Prelude.{◌≡◌, ℕ, IfOk};
 ghost use Rattle.rules.specs.Soundness.{rules};
 ghost use Rattle.runs.specs.Models.{Model};
-ghost use Rattle.runs.specs.States.{draft-view, closed-view, Views, Ready, Carries};
+ghost use Rattle.runs.specs.States.{draft_view, closed_view, Views, Ready, Carries};
 
 use crate::answer::Answer;
 use crate::call::Call;
@@ -20,7 +20,7 @@ fn on_draft<K: Kind, T: Tally>(
     draft: Draft<K, T>,
     call: Call,
 ) -> (State<K, T>, Answer<K::Value, T::Cost>)
-    ensures { Carries K.Kind.meaning K.Kind.values (rules K.Kind.meaning K.Kind.fit T.Joins.joining T.Tally.order) (draft-view draft) call result.0 result.1 }
+    ensures { Carries K.Kind.meaning K.Kind.values (rules K.Kind.meaning K.Kind.fit T.Joins.joining T.Tally.order) (draft_view draft) call result.0 result.1 }
 {
     let mut draft = draft;
     match call {
@@ -69,7 +69,7 @@ fn on_closed<K: Kind, T: Tally>(
     call: Call,
 ) -> Result<(State<K, T>, Answer<K::Value, T::Cost>), AllocError>
     requires { closed.sheet.codes ≡ K.Kind.meaning.codes }
-    ensures { IfOk result (λ p. (steps asked : ℕ) → Carries K.Kind.meaning K.Kind.values (rules K.Kind.meaning K.Kind.fit T.Joins.joining T.Tally.order) (closed-view closed steps asked) call p.0 p.1) }
+    ensures { IfOk result (λ p. (steps asked : ℕ) → Carries K.Kind.meaning K.Kind.values (rules K.Kind.meaning K.Kind.fit T.Joins.joining T.Tally.order) (closed_view closed steps asked) call p.0 p.1) }
 {
     let mut closed = closed;
     match call {

@@ -1,7 +1,7 @@
 // Shows on a page of their own.
 ghost use Rattle.std.specs.Prelude.{◌≡◌, ℕ, IfOk, vec_len};
 ghost use Rattle.rules.specs.Soundness.{rules};
-ghost use Rattle.search.specs.Closed.{rows_of, position-of};
+ghost use Rattle.search.specs.Closed.{rows_of, position_of};
 ghost use Rattle.runs.specs.Answers.{Showing};
 
 use crate::answer::{Answer, Sight};
@@ -30,7 +30,7 @@ pub(crate) fn show_on<K: Kind, T: Tally>(
     places: u8,
 ) -> Result<Answer<K::Value, T::Cost>, AllocError>
     requires { closed.now.sheet.codes ≡ K.Kind.meaning.codes }
-    ensures { IfOk result (Showing K.Kind.meaning K.Kind.values (rules K.Kind.meaning K.Kind.fit T.Joins.joining T.Tally.order) closed.now.sheet.items (rows_of closed.now.sheet) (position-of closed.now.sheet) places) }
+    ensures { IfOk result (Showing K.Kind.meaning K.Kind.values (rules K.Kind.meaning K.Kind.fit T.Joins.joining T.Tally.order) closed.now.sheet.items (rows_of closed.now.sheet) (position_of closed.now.sheet) places) }
 {
     let mut values = page_of::<K>(heap, places)?;
     match closed.show(values.as_mut_slice()) {

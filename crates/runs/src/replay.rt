@@ -1,9 +1,9 @@
 // A script carried out, from any draft.
 ghost use Rattle.std.specs.Prelude.{◌≡◌, IfOk};
 ghost use Rattle.rules.specs.Soundness.{rules};
-ghost use Rattle.runs.specs.Answers.{Answers-script};
+ghost use Rattle.runs.specs.Answers.{AnswersScript};
 ghost use Rattle.runs.specs.Law.{Law};
-ghost use Rattle.runs.specs.States.{draft-view};
+ghost use Rattle.runs.specs.States.{draft_view};
 
 use crate::answer::Answer;
 use crate::call::Call;
@@ -21,8 +21,8 @@ pub fn replay<K: Kind, T: Tally>(
     draft: Draft<K, T>,
     script: &[Call],
 ) -> Result<Vec<Answer<K::Value, T::Cost>>, AllocError>
-    ensures law { IfOk result (λ v. Law K.Kind.meaning (rules K.Kind.meaning K.Kind.fit T.Joins.joining T.Tally.order) (draft-view draft) script.now v.items) }
-    ensures answers { IfOk result (λ v. Answers-script K.Kind.meaning K.Kind.values (rules K.Kind.meaning K.Kind.fit T.Joins.joining T.Tally.order) (draft-view draft) script.now v.items) }
+    ensures law { IfOk result (λ v. Law K.Kind.meaning (rules K.Kind.meaning K.Kind.fit T.Joins.joining T.Tally.order) (draft_view draft) script.now v.items) }
+    ensures answers { IfOk result (λ v. AnswersScript K.Kind.meaning K.Kind.values (rules K.Kind.meaning K.Kind.fit T.Joins.joining T.Tally.order) (draft_view draft) script.now v.items) }
 {
     let mut state = State::Drafting(draft);
     let mut answers = Vec::new(heap);

@@ -6,32 +6,32 @@ use Rattle.rules.proofs.Cursors.{zeros}
 use Rattle.search.specs.Tables.{Blank}
 
 -- Past the last pair there is no code.
-pub blank-end : (m : ℕ) (a : List ℕ) → length a ≤ m → Blank m a
-blank-end m a long k l = get_or_past a k 0 (omega (arith, long, l))
+pub blank_end : (m : ℕ) (a : List ℕ) → length a ≤ m → Blank m a
+blank_end m a long k l = get_or_past a k 0 (omega (arith, long, l))
 
-zeros-read : (r k : ℕ) → get_or (zeros r) k 0 ≡ 0
-zeros-read r k = elim (cases_lt k r) [
+zeros_read : (r k : ℕ) → get_or (zeros r) k 0 ≡ 0
+zeros_read r k = elim (cases_lt k r) [
   | inl lt ↦ get_or-replicate r k 0 0 lt
   | inr ge ↦ (let long : length (zeros r) ≡ r = length-replicate r 0 in get_or_past (zeros r) k 0 (omega (arith, long, ge)))
 ]
 
 -- The codes after a prefix that zeros follow are 0, also once another code is written as its last.
-pub blank-after : (i r : ℕ) (a now : List ℕ) → i ≤ length a → now ≡ take i a ++ zeros r → Blank i now
-blank-after i r a now within e k l =
+pub blank_after : (i r : ℕ) (a now : List ℕ) → i ≤ length a → now ≡ take i a ++ zeros r → Blank i now
+blank_after i r a now within e k l =
     ap (λ (z : List ℕ). get_or z k 0) e
-    ∙ get_or-append_right (take i a) (zeros r) i k 0 (length-take-le i a within) l ∙ zeros-read r (k - i)
+    ∙ get_or-append_right (take i a) (zeros r) i k 0 (length-take-le i a within) l ∙ zeros_read r (k - i)
 
-pub blank-set : (i v : ℕ) (a : List ℕ) → 0 < i → Blank i a → Blank i (set a (i - 1) v)
-blank-set i v a pos blank k l = let ne : k ≢ i - 1 = omega (arith, pos, l) in get_or-set_other a (i - 1) k v 0 ne ∙ blank k l
+pub blank_set : (i v : ℕ) (a : List ℕ) → 0 < i → Blank i a → Blank i (set a (i - 1) v)
+blank_set i v a pos blank k l = let ne : k ≢ i - 1 = omega (arith, pos, l) in get_or-set_other a (i - 1) k v 0 ne ∙ blank k l
 
 -- Such a scenario is a prefix and zeros.
-pub blank-front : (m : ℕ) (a : List ℕ) → Blank m a → a ≡ take m a ++ zeros (length a - m)
-blank-front zero [] blank = refl
-blank-front (suc m) [] blank = let none : 0 - suc m ≡ 0 = omega arith in ap zeros (sym none)
-blank-front zero (c ∷ a) blank =
+pub blank_front : (m : ℕ) (a : List ℕ) → Blank m a → a ≡ take m a ++ zeros (length a - m)
+blank_front zero [] blank = refl
+blank_front (suc m) [] blank = let none : 0 - suc m ≡ 0 = omega arith in ap zeros (sym none)
+blank_front zero (c ∷ a) blank =
     let more : suc (length a - 0) ≡ suc (length a) - 0 = omega arith in
     ap (λ (x : ℕ). x ∷ a) (blank 0 (omega arith))
-    ∙ ap (λ (z : List ℕ). 0 ∷ z) (blank-front 0 a (λ k l. blank (suc k) (omega arith))) ∙ ap zeros more
-blank-front (suc m) (c ∷ a) blank =
+    ∙ ap (λ (z : List ℕ). 0 ∷ z) (blank_front 0 a (λ k l. blank (suc k) (omega arith))) ∙ ap zeros more
+blank_front (suc m) (c ∷ a) blank =
     let less : length a - m ≡ suc (length a) - suc m = omega arith in
-    ap (λ (z : List ℕ). c ∷ z) (blank-front m a (λ k l. blank (suc k) (omega (arith, l))) ∙ ap (λ (z : ℕ). take m a ++ zeros z) less)
+    ap (λ (z : List ℕ). c ∷ z) (blank_front m a (λ k l. blank (suc k) (omega (arith, l))) ∙ ap (λ (z : ℕ). take m a ++ zeros z) less)

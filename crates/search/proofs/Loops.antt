@@ -2,25 +2,25 @@
 use Rattle.std.proofs.Common.{◌≡◌, ℕ, zero, suc, ◌+◌, ◌-◌, ◌<◌, ◌≤◌, Bool, true, false, cond, ◌&&◌, eqb, List, [], ◌∷◌, ◌++◌, length, get_or, take, filter, sym, refl, ap, ◌∙◌, append-nil, arith}
 use Rattle.std.proofs.lemmas.List.Elements.{filter_more}
 use Rattle.std.proofs.lemmas.List.{length-take-le}
-use Rattle.tallies.specs.Joins.{Joining, Monoid, joined, most-penalties}
+use Rattle.tallies.specs.Joins.{Joining, Monoid, joined, most_penalties}
 use Rattle.tallies.specs.Groups.{span}
 use Rattle.tallies.specs.declared.claim.Claim.{Claim}
-use Rattle.tallies.proofs.Along.{monoid-along}
+use Rattle.tallies.proofs.Along.{monoid_along}
 use Rattle.tallies.proofs.Joins.{push}
 use Rattle.rules.specs.declared.row.Row.{Row}
-use Rattle.rules.specs.Rows.{claim-of, counts, counting, breaks, spot}
-use Rattle.rules.specs.Costs.{of-rows, cost, charge, pair-cost, pair-bound}
-use Rattle.rules.proofs.Filters.{length-kept-by-le, kept-by-twice}
+use Rattle.rules.specs.Rows.{claim_of, counts, counting, breaks, spot}
+use Rattle.rules.specs.Costs.{of_rows, cost, charge, pair_cost, pair_bound}
+use Rattle.rules.proofs.Filters.{length_kept_by_le, kept_by_twice}
 
 -- The join of what passes a test, with one more member.
-pub joined-kept-more : {P C : Type 0} (j : Joining P C) (m : Monoid j) (f : P → Bool) (xs : List P) (i : ℕ) (d : P)
-    → length xs ≤ most-penalties → i < length xs
+pub joined_kept_more : {P C : Type 0} (j : Joining P C) (m : Monoid j) (f : P → Bool) (xs : List P) (i : ℕ) (d : P)
+    → length xs ≤ most_penalties → i < length xs
     → joined j (filter f (take (i + 1) xs))
     ≡ cond (f (get_or xs i d)) (j.join (joined j (filter f (take i xs))) (j.penalty (get_or xs i d))) (joined j (filter f (take i xs)))
-joined-kept-more {P = P} {C = C} j m f xs i d few l = ap (joined j) (filter_more f xs i d l) ∙ ends (f (get_or xs i d))
+joined_kept_more {P = P} {C = C} j m f xs i d few l = ap (joined j) (filter_more f xs i d l) ∙ ends (f (get_or xs i d))
   where
-    short : length (filter f (take i xs)) + 1 ≤ most-penalties
-    short = omega (arith, length-kept-by-le f (take i xs), length-take-le i xs (omega arith))
+    short : length (filter f (take i xs)) + 1 ≤ most_penalties
+    short = omega (arith, length_kept_by_le f (take i xs), length-take-le i xs (omega arith))
 
     ends : (v : Bool) → joined j (filter f (take i xs) ++ cond v (get_or xs i d ∷ []) [])
         ≡ cond v (j.join (joined j (filter f (take i xs))) (j.penalty (get_or xs i d))) (joined j (filter f (take i xs)))
@@ -28,83 +28,83 @@ joined-kept-more {P = P} {C = C} j m f xs i d few l = ap (joined j) (filter_more
     ends false = ap (joined j) (append-nil (filter f (take i xs)))
 
 -- A filter of the rows that count is one filter of all rows.
-pub kept-counting : (f : Row → Bool) (rows : List Row) → filter f (counting rows) ≡ filter (λ (r : Row). counts r && f r) rows
-kept-counting f rows = kept-by-twice f counts (λ (r : Row). counts r && f r) (λ r. refl) rows
+pub kept_counting : (f : Row → Bool) (rows : List Row) → filter f (counting rows) ≡ filter (λ (r : Row). counts r && f r) rows
+kept_counting f rows = kept_by_twice f counts (λ (r : Row). counts r && f r) (λ r. refl) rows
 
 -- A turn of a loop that adds a penalty by a test, where the code has the test as v and the cost so far as sum.
-pub turn-adds : {C : Type 0} (join : C → C → C) (penalty : C) {v w : Bool} {sum was next new : C}
+pub turn_adds : {C : Type 0} (join : C → C → C) (penalty : C) {v w : Bool} {sum was next new : C}
     → v ≡ w → sum ≡ was → next ≡ cond w (join was penalty) was → new ≡ cond v (join sum penalty) sum → new ≡ next
-turn-adds join penalty test so_far more now = cc
+turn_adds join penalty test so_far more now = cc
 
 -- A turn of a loop that joins a cost to the cost so far.
-pub turn-joins : {C : Type 0} (join : C → C → C) {cost here sum was next new : C} → cost ≡ here → sum ≡ was → next ≡ join was here → new ≡ join sum cost → new ≡ next
-turn-joins join cost so_far more now = cc
+pub turn_joins : {C : Type 0} (join : C → C → C) {cost here sum was next new : C} → cost ≡ here → sum ≡ was → next ≡ join was here → new ≡ join sum cost → new ≡ next
+turn_joins join cost so_far more now = cc
 
 -- A turn of a loop that keeps the lesser of two costs.
-pub turn-lesser : {C : Type 0} (at_most : C → C → Bool) {cost here least was next new : C}
+pub turn_lesser : {C : Type 0} (at_most : C → C → Bool) {cost here least was next new : C}
     → cost ≡ here → least ≡ was → next ≡ cond (at_most here was) here was → new ≡ cond (at_most cost least) cost least → new ≡ next
-turn-lesser at_most cost so_far more now = cc
+turn_lesser at_most cost so_far more now = cc
 
 module _ {C : Type 0} (j : Joining Claim C) where
   -- The cost, the charge of a person and the cost of a pair, each by one filter of all rows.
-  pub cost-kept : (rows : List Row) (f : ℕ → ℕ → ℕ)
-      → cost j rows f ≡ joined (of-rows j) (filter (λ (r : Row). counts r && breaks r (f r.low r.high)) rows)
-  cost-kept rows f = ap (joined (of-rows j)) (kept-counting (λ (r : Row). breaks r (f r.low r.high)) rows)
+  pub cost_kept : (rows : List Row) (f : ℕ → ℕ → ℕ)
+      → cost j rows f ≡ joined (of_rows j) (filter (λ (r : Row). counts r && breaks r (f r.low r.high)) rows)
+  cost_kept rows f = ap (joined (of_rows j)) (kept_counting (λ (r : Row). breaks r (f r.low r.high)) rows)
 
-  pub charge-kept : (rows : List Row) (f : ℕ → ℕ → ℕ) (p : ℕ)
-      → charge j rows f p ≡ joined (of-rows j) (filter (λ (r : Row). counts r && (breaks r (f r.low r.high) && eqb r.person p)) rows)
-  charge-kept rows f p =
+  pub charge_kept : (rows : List Row) (f : ℕ → ℕ → ℕ) (p : ℕ)
+      → charge j rows f p ≡ joined (of_rows j) (filter (λ (r : Row). counts r && (breaks r (f r.low r.high) && eqb r.person p)) rows)
+  charge_kept rows f p =
       let test : Row → Bool = λ r. breaks r (f r.low r.high) in
       let whose : Row → Bool = λ r. eqb r.person p in
-      ap (joined (of-rows j))
-      (kept-by-twice whose test (λ r. test r && whose r) (λ r. refl) (counting rows) ∙ kept-counting (λ r. test r && whose r) rows)
+      ap (joined (of_rows j))
+      (kept_by_twice whose test (λ r. test r && whose r) (λ r. refl) (counting rows) ∙ kept_counting (λ r. test r && whose r) rows)
 
-  pub pair-cost-kept : (rows : List Row) (s c : ℕ)
-      → pair-cost j rows s c ≡ joined (of-rows j) (filter (λ (r : Row). counts r && (eqb (spot r) s && breaks r c)) rows)
-  pair-cost-kept rows s c =
+  pub pair_cost_kept : (rows : List Row) (s c : ℕ)
+      → pair_cost j rows s c ≡ joined (of_rows j) (filter (λ (r : Row). counts r && (eqb (spot r) s && breaks r c)) rows)
+  pair_cost_kept rows s c =
       let here : Row → Bool = λ r. eqb (spot r) s in
       let test : Row → Bool = λ r. breaks r c in
-      ap (joined (of-rows j))
-      (kept-by-twice test here (λ r. here r && test r) (λ r. refl) (counting rows) ∙ kept-counting (λ r. here r && test r) rows)
+      ap (joined (of_rows j))
+      (kept_by_twice test here (λ r. here r && test r) (λ r. refl) (counting rows) ∙ kept_counting (λ r. here r && test r) rows)
 
-  module _ (m : Monoid j) (rows : List Row) (i : ℕ) (d : Row) (few : length rows ≤ most-penalties) (l : i < length rows) where
+  module _ (m : Monoid j) (rows : List Row) (i : ℕ) (d : Row) (few : length rows ≤ most_penalties) (l : i < length rows) where
     -- Each with one more row.
-    pub cost-more : (f : ℕ → ℕ → ℕ) → cost j (take (i + 1) rows) f
+    pub cost_more : (f : ℕ → ℕ → ℕ) → cost j (take (i + 1) rows) f
         ≡ cond (counts (get_or rows i d) && breaks (get_or rows i d) (f (get_or rows i d).low (get_or rows i d).high))
-        (j.join (cost j (take i rows) f) (j.penalty (claim-of (get_or rows i d)))) (cost j (take i rows) f)
-    cost-more f =
-        simp cost-kept
-        (joined-kept-more (of-rows j) (monoid-along claim-of j m) (λ (r : Row). counts r && breaks r (f r.low r.high)) rows i d few l)
+        (j.join (cost j (take i rows) f) (j.penalty (claim_of (get_or rows i d)))) (cost j (take i rows) f)
+    cost_more f =
+        simp cost_kept
+        (joined_kept_more (of_rows j) (monoid_along claim_of j m) (λ (r : Row). counts r && breaks r (f r.low r.high)) rows i d few l)
 
-    pub charge-more : (f : ℕ → ℕ → ℕ) (p : ℕ) → charge j (take (i + 1) rows) f p
+    pub charge_more : (f : ℕ → ℕ → ℕ) (p : ℕ) → charge j (take (i + 1) rows) f p
         ≡ cond (counts (get_or rows i d) && (breaks (get_or rows i d) (f (get_or rows i d).low (get_or rows i d).high) && eqb (get_or rows i d).person p))
-        (j.join (charge j (take i rows) f p) (j.penalty (claim-of (get_or rows i d)))) (charge j (take i rows) f p)
-    charge-more f p =
-        simp charge-kept
-        (joined-kept-more (of-rows j) (monoid-along claim-of j m)
+        (j.join (charge j (take i rows) f p) (j.penalty (claim_of (get_or rows i d)))) (charge j (take i rows) f p)
+    charge_more f p =
+        simp charge_kept
+        (joined_kept_more (of_rows j) (monoid_along claim_of j m)
         (λ (r : Row). counts r && (breaks r (f r.low r.high) && eqb r.person p)) rows i d few l)
 
-    pub pair-cost-more : (s c : ℕ) → pair-cost j (take (i + 1) rows) s c
+    pub pair_cost_more : (s c : ℕ) → pair_cost j (take (i + 1) rows) s c
         ≡ cond (counts (get_or rows i d) && (eqb (spot (get_or rows i d)) s && breaks (get_or rows i d) c))
-        (j.join (pair-cost j (take i rows) s c) (j.penalty (claim-of (get_or rows i d)))) (pair-cost j (take i rows) s c)
-    pair-cost-more s c =
-        simp pair-cost-kept
-        (joined-kept-more (of-rows j) (monoid-along claim-of j m) (λ (r : Row). counts r && (eqb (spot r) s && breaks r c)) rows i d few l)
+        (j.join (pair_cost j (take i rows) s c) (j.penalty (claim_of (get_or rows i d)))) (pair_cost j (take i rows) s c)
+    pair_cost_more s c =
+        simp pair_cost_kept
+        (joined_kept_more (of_rows j) (monoid_along claim_of j m) (λ (r : Row). counts r && (eqb (spot r) s && breaks r c)) rows i d few l)
 
   module _ (at_most : C → C → Bool) (rows : List Row) where
     -- The bound of a pair over one code, and over one more.
-    pub pair-bound-one : (s : ℕ) → pair-bound j at_most 1 rows s ≡ pair-cost j rows s 0
-    pair-bound-one s = refl
+    pub pair_bound_one : (s : ℕ) → pair_bound j at_most 1 rows s ≡ pair_cost j rows s 0
+    pair_bound_one s = refl
 
-    pub pair-bound-more : (b s : ℕ) → 1 ≤ b → pair-bound j at_most (b + 1) rows s
-        ≡ cond (at_most (pair-cost j rows s b) (pair-bound j at_most b rows s)) (pair-cost j rows s b) (pair-bound j at_most b rows s)
-    pair-bound-more zero s h = absurd (omega arith)
-    pair-bound-more (suc b) s h =
+    pub pair_bound_more : (b s : ℕ) → 1 ≤ b → pair_bound j at_most (b + 1) rows s
+        ≡ cond (at_most (pair_cost j rows s b) (pair_bound j at_most b rows s)) (pair_cost j rows s b) (pair_bound j at_most b rows s)
+    pair_bound_more zero s h = absurd (omega arith)
+    pair_bound_more (suc b) s h =
         let up : (suc b + 1) - 1 ≡ suc b = omega arith in
         let down : suc b - 1 ≡ b = omega arith in
         rw (up, down) refl
 
     -- The bounds of the pairs from q on are that of q joined with those from q + 1 on.
-    pub bounds-first : (b q p : ℕ) → q < p → span (of-rows j) (pair-bound j at_most b rows) q (p - q)
-        ≡ j.join (pair-bound j at_most b rows q) (span (of-rows j) (pair-bound j at_most b rows) (suc q) (p - suc q))
-    bounds-first b q p h = let e : p - q ≡ suc (p - suc q) = omega arith in rw e refl
+    pub bounds_first : (b q p : ℕ) → q < p → span (of_rows j) (pair_bound j at_most b rows) q (p - q)
+        ≡ j.join (pair_bound j at_most b rows q) (span (of_rows j) (pair_bound j at_most b rows) (suc q) (p - suc q))
+    bounds_first b q p h = let e : p - q ≡ suc (p - suc q) = omega arith in rw e refl

@@ -15,24 +15,24 @@ abbrev pub rows_of : Sheet → List Row
 rows_of s = vec_items s.rows
 
 -- the codes of the incumbent, one for each pair
-abbrev pub incumbent-of : Sheet → List ℕ
-incumbent-of s = take (pairs s.items) s.incumbent
+abbrev pub incumbent_of : Sheet → List ℕ
+incumbent_of s = take (pairs s.items) s.incumbent
 
 -- the codes of the scenario at the cursor, while there is one
-abbrev pub cursor-of : Sheet → List ℕ
-cursor-of s = take (pairs s.items) s.cursor
+abbrev pub cursor_of : Sheet → List ℕ
+cursor_of s = take (pairs s.items) s.cursor
 
 -- where the search stands
-abbrev pub position-of : Sheet → Position
-position-of s = stands_at s.codes s.items s.incumbent s.cursor s.going
+abbrev pub position_of : Sheet → Position
+position_of s = stands_at s.codes s.items s.incumbent s.cursor s.going
 
 -- the rules of the search, with the number of codes that the sheet has
-abbrev pub rules-of : {C : Type 0} → Sheet → (ℕ → ℕ → ℕ → Bool) → Joining Claim C → (C → C → Bool) → Rules C
-rules-of s fit j at_most = record { codes = s.codes; fit = fit; joining = j; at_most = at_most }
+abbrev pub rules_of : {C : Type 0} → Sheet → (ℕ → ℕ → ℕ → Bool) → Joining Claim C → (C → C → Bool) → Rules C
+rules_of s fit j at_most = record { codes = s.codes; fit = fit; joining = j; at_most = at_most }
 
 -- The cursor has passed the last scenario.
-abbrev pub is-finished : Sheet → Bool
-is-finished s = nat_le (s.codes ^ pairs s.items) (position-of s).cursor
+abbrev pub is_finished : Sheet → Bool
+is_finished s = nat_le (s.codes ^ pairs s.items) (position_of s).cursor
 
 -- What can be closed: 1 to 12 items, 1 to 64 codes, and proper rows with room for 256.
 abbrev pub closes : ℕ → Vec Row Global → ℕ → Bool

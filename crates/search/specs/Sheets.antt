@@ -5,9 +5,9 @@ use Rattle.rules.specs.Orders.{index}
 use Rattle.rules.specs.Steps.{Position, position}
 
 -- every code is below b
-abbrev pub all-below : ℕ → List ℕ → Bool
-all-below b [] = true
-all-below b (c ∷ cs) = nat_lt c b && all-below b cs
+abbrev pub all_below : ℕ → List ℕ → Bool
+all_below b [] = true
+all_below b (c ∷ cs) = nat_lt c b && all_below b cs
 
 -- Where the search stands: the codes of the first pairs of two arrays, and whether there is a scenario left to look at.
 abbrev pub stands_at : ℕ → ℕ → List ℕ → List ℕ → Bool → Position

@@ -6,27 +6,27 @@ use Rattle.tallies.specs.Joins.{Joining}
 use Rattle.tallies.specs.Groups.{span}
 use Rattle.tallies.specs.declared.claim.Claim.{Claim}
 use Rattle.rules.specs.declared.row.Row.{Row}
-use Rattle.rules.specs.Costs.{of-rows, pair-cost, pair-bound}
+use Rattle.rules.specs.Costs.{of_rows, pair_cost, pair_bound}
 use Rattle.rules.specs.Steps.{Rules, refuted}
 
 -- The cost of the first q pairs of a scenario, and the join of the lower bounds of the others of p pairs.
-abbrev pub spent-on : {C : Type 0} → Joining Claim C → List Row → List ℕ → ℕ → C
-spent-on j rows a q = span (of-rows j) (λ s. pair-cost j rows s (slice_index a s)) 0 q
+abbrev pub spent_on : {C : Type 0} → Joining Claim C → List Row → List ℕ → ℕ → C
+spent_on j rows a q = span (of_rows j) (λ s. pair_cost j rows s (slice_index a s)) 0 q
 
-abbrev pub owed-from : {C : Type 0} → Joining Claim C → (C → C → Bool) → ℕ → List Row → ℕ → ℕ → C
-owed-from j at_most b rows p q = span (of-rows j) (pair-bound j at_most b rows) q (p - q)
+abbrev pub owed_from : {C : Type 0} → Joining Claim C → (C → C → Bool) → ℕ → List Row → ℕ → ℕ → C
+owed_from j at_most b rows p q = span (of_rows j) (pair_bound j at_most b rows) q (p - q)
 
 -- A table has the costs of the pairs from k on, of p pairs, under each of b codes, with 64 places to a pair.
 abbrev pub Priced : {C : Type 0} → Joining Claim C → ℕ → List Row → ℕ → ℕ → List C → Type 0
-Priced j b rows k p prices = (s c : ℕ) → k ≤ s → s < p → c < b → slice_index_or prices (s * 64 + c) j.empty ≡ pair-cost j rows s c
+Priced j b rows k p prices = (s c : ℕ) → k ≤ s → s < p → c < b → slice_index_or prices (s * 64 + c) j.empty ≡ pair_cost j rows s c
 
 -- A table has the joins of the lower bounds of the pairs from each place from k on.
 abbrev pub Owed : {C : Type 0} → Joining Claim C → (C → C → Bool) → ℕ → List Row → ℕ → ℕ → List C → Type 0
-Owed j at_most b rows k p owed = (q : ℕ) → k ≤ q → q ≤ p → slice_index_or owed q j.empty ≡ owed-from j at_most b rows p q
+Owed j at_most b rows k p owed = (q : ℕ) → k ≤ q → q ≤ p → slice_index_or owed q j.empty ≡ owed_from j at_most b rows p q
 
 -- A table has the costs of the prefixes of a that are shorter than m.
 abbrev pub Spent : {C : Type 0} → Joining Claim C → List Row → List ℕ → ℕ → List C → Type 0
-Spent j rows a m spent = (q : ℕ) → q < m → slice_index_or spent q j.empty ≡ spent-on j rows a q
+Spent j rows a m spent = (q : ℕ) → q < m → slice_index_or spent q j.empty ≡ spent_on j rows a q
 
 -- No prefix of a that is shorter than m is refuted against the cost best.
 abbrev pub Stands : {C : Type 0} → Rules C → ℕ → List Row → C → List ℕ → ℕ → Type 0
@@ -38,8 +38,8 @@ Blank m a = (k : ℕ) → m ≤ k → slice_index a k ≡ 0
 
 -- The two tables of a sheet.
 pub record Tabled {C : Type 0} (r : Rules C) (n : ℕ) (rows : List Row) (prices owed : List C) : Type 0 where
-  pub prices-long : length prices ≡ 4224
-  pub owed-long : length owed ≡ 67
+  pub prices_long : length prices ≡ 4224
+  pub owed_long : length owed ≡ 67
   pub priced : Priced r.joining r.codes rows 0 (pairs n) prices
   pub bounded : Owed r.joining r.at_most r.codes rows 0 (pairs n) owed
 

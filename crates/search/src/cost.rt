@@ -1,8 +1,8 @@
 // What the rows of a sheet cost.
 ghost use Rattle.std.specs.Prelude.{◌≡◌, ◌≤◌, length, if◌then◌else◌};
 ghost use Rattle.points.specs.Scenarios.{pairs as pairs_of, entry as entry_of};
-ghost use Rattle.rules.specs.Costs.{cost as cost-of, charge as charge-of, pair-cost, pair-bound, sheet-bound};
-ghost use Rattle.search.specs.Closed.{rows_of, incumbent-of};
+ghost use Rattle.rules.specs.Costs.{cost as cost_of, charge as charge_of, pair_cost, pair_bound, sheet_bound};
+ghost use Rattle.search.specs.Closed.{rows_of, incumbent_of};
 
 use crate::sheet::Sheet;
 use points::scenario::pairs;
@@ -12,7 +12,7 @@ use tallies::tally::{Joins, Tally};
 // The cost of a scenario.
 fn scenario_cost<J: Joins>(rows: &[Row], scenario: &[u8]) -> J::Cost
     requires { length rows.now ≤ 256 }
-    ensures { result ≡ cost-of J.Joins.joining rows.now (entry_of scenario.now) }
+    ensures { result ≡ cost_of J.Joins.joining rows.now (entry_of scenario.now) }
 {
     let mut sum = J::empty();
     for row in rows {
@@ -24,7 +24,7 @@ fn scenario_cost<J: Joins>(rows: &[Row], scenario: &[u8]) -> J::Cost
 // The charge of a person in a scenario.
 fn scenario_charge<J: Joins>(rows: &[Row], scenario: &[u8], person: u8) -> J::Cost
     requires { length rows.now ≤ 256 }
-    ensures { result ≡ charge-of J.Joins.joining rows.now (entry_of scenario.now) person }
+    ensures { result ≡ charge_of J.Joins.joining rows.now (entry_of scenario.now) person }
 {
     let mut sum = J::empty();
     for row in rows {
@@ -36,7 +36,7 @@ fn scenario_charge<J: Joins>(rows: &[Row], scenario: &[u8], person: u8) -> J::Co
 // The cost of the pair at the place under a code.
 pub(crate) fn pair_price<J: Joins>(rows: &[Row], spot: usize, code: u8) -> J::Cost
     requires { length rows.now ≤ 256 }
-    ensures { result ≡ pair-cost J.Joins.joining rows.now spot code }
+    ensures { result ≡ pair_cost J.Joins.joining rows.now spot code }
 {
     let mut sum = J::empty();
     for row in rows {
@@ -60,7 +60,7 @@ pub(crate) fn lesser<T: Tally>(first: T::Cost, second: T::Cost) -> T::Cost
 pub(crate) fn pair_least<T: Tally>(rows: &[Row], codes: u8, spot: usize) -> T::Cost
     requires few { length rows.now ≤ 256 }
     requires coded { 1 ≤ codes }
-    ensures { result ≡ pair-bound T.Joins.joining T.Tally.order codes rows.now spot }
+    ensures { result ≡ pair_bound T.Joins.joining T.Tally.order codes rows.now spot }
 {
     let mut least = pair_price::<T>(rows, spot, 0);
     for code in 1..codes {
@@ -72,14 +72,14 @@ pub(crate) fn pair_least<T: Tally>(rows: &[Row], codes: u8, spot: usize) -> T::C
 impl Sheet {
     /// The cost of the incumbent: the join of the penalties of the counting statements that it breaks.
     pub fn cost<J: Joins>(&self) -> J::Cost
-        ensures { result ≡ cost-of J.Joins.joining (rows_of self.now) (entry_of (incumbent-of self.now)) }
+        ensures { result ≡ cost_of J.Joins.joining (rows_of self.now) (entry_of (incumbent_of self.now)) }
     {
         scenario_cost::<J>(self.rows.as_slice(), &self.incumbent[0..pairs(self.items)])
     }
 
     /// The charge of a person: the same of that person's statements.
     pub fn charge<J: Joins>(&self, person: u8) -> J::Cost
-        ensures { result ≡ charge-of J.Joins.joining (rows_of self.now) (entry_of (incumbent-of self.now)) person }
+        ensures { result ≡ charge_of J.Joins.joining (rows_of self.now) (entry_of (incumbent_of self.now)) person }
     {
         scenario_charge::<J>(
             self.rows.as_slice(),
@@ -90,7 +90,7 @@ impl Sheet {
 
     /// The lower bound of the sheet: the join of the lower bounds of its pairs.
     pub fn bound<T: Tally>(&self) -> T::Cost
-        ensures { result ≡ sheet-bound T.Joins.joining T.Tally.order self.now.codes self.now.items (rows_of self.now) }
+        ensures { result ≡ sheet_bound T.Joins.joining T.Tally.order self.now.codes self.now.items (rows_of self.now) }
     {
         let mut sum = T::empty();
         for spot in 0..pairs(self.items) {

@@ -2,10 +2,10 @@
 ghost use Rattle.std.specs.Prelude.{◌≡◌, ◌^◌, ◌≤◌, Bool, true, false, ◌&&◌, length, take, is_ok, IfOk, IfErr, if◌then◌else◌, vec_capacity};
 ghost use Rattle.points.specs.Scenarios.{pairs as pairs_of};
 ghost use Rattle.rules.specs.Orders.{index};
-ghost use Rattle.rules.specs.Properly.{all-proper, proper};
-ghost use Rattle.search.specs.Sheets.{all-below};
+ghost use Rattle.rules.specs.Properly.{all_proper, proper};
+ghost use Rattle.search.specs.Sheets.{all_below};
 ghost use Rattle.rules.specs.Steps.{opening};
-ghost use Rattle.search.specs.Closed.{rows_of, incumbent-of, position-of, closes, is-finished};
+ghost use Rattle.search.specs.Closed.{rows_of, incumbent_of, position_of, closes, is_finished};
 
 use crate::sheet::Sheet;
 use points::scenario::pairs;
@@ -13,7 +13,7 @@ use rules::row::Row;
 
 // Whether all rows are those of a sheet with so many items.
 fn all_are_proper(rows: &[Row], items: u8) -> bool
-    ensures { result ≡ all-proper items rows.now }
+    ensures { result ≡ all_proper items rows.now }
 {
     let mut good = true;
     for row in rows {
@@ -36,7 +36,7 @@ fn second_scenario(count: usize, codes: u8) -> ([u8; 66], bool)
     requires few { count ≤ 66 }
     requires coded { 1 ≤ codes }
     ensures wide { length result.0 ≡ 66 }
-    ensures below { all-below codes (take count result.0) ≡ true }
+    ensures below { all_below codes (take count result.0) ≡ true }
     ensures number { (if result.1 then index codes (take count result.0) else codes ^ count) ≡ 1 }
 {
     let mut cursor = [0; 66];
@@ -52,7 +52,7 @@ impl Sheet {
     /// scenario of all zeros is the incumbent, and the cursor is at the next. Other parts are refused, and the rows are given back.
     pub fn closing(items: u8, rows: Vec<Row>, codes: u8) -> Result<Sheet, Vec<Row>>
         ensures test { is_ok result ≡ closes items rows codes }
-        ensures opens { IfOk result (λ s. position-of s ≡ opening items) }
+        ensures opens { IfOk result (λ s. position_of s ≡ opening items) }
         ensures parts { IfOk result (λ s. (s.items ≡ items) × (s.rows ≡ rows) × (s.codes ≡ codes)) }
         ensures back { IfErr result (λ v. v ≡ rows) }
     {
@@ -103,14 +103,14 @@ impl Sheet {
 
     /// The incumbent: a code for each pair.
     pub fn incumbent(&self) -> &[u8]
-        ensures { result.now ≡ incumbent-of self.now }
+        ensures { result.now ≡ incumbent_of self.now }
     {
         &self.incumbent[0..pairs(self.items)]
     }
 
     /// Whether the cursor has passed the last scenario.
     pub fn finished(&self) -> bool
-        ensures { result ≡ is-finished self.now }
+        ensures { result ≡ is_finished self.now }
     {
         !self.going
     }

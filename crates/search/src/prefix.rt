@@ -1,9 +1,9 @@
 // The prefixes of the scenario at the cursor, and which of them are refuted.
-ghost use Rattle.std.specs.Prelude.{◌≡◌, ℕ, ◌+◌, ◌*◌, ◌<◌, ◌≤◌, Bool, true, false, not, length as length-of, slice_index};
+ghost use Rattle.std.specs.Prelude.{◌≡◌, ℕ, ◌+◌, ◌*◌, ◌<◌, ◌≤◌, Bool, true, false, not, length as length_of, slice_index};
 ghost use Rattle.points.specs.Scenarios.{pairs as pairs_of, place as place_of};
 ghost use Rattle.rules.specs.Steps.{some, unfit, refuted, first_passing};
-ghost use Rattle.search.specs.Closed.{rows_of, cursor-of, rules-of};
-ghost use Rattle.search.specs.Tables.{spent-on, Priced, Owed, Stands, Tabled, Known};
+ghost use Rattle.search.specs.Closed.{rows_of, cursor_of, rules_of};
+ghost use Rattle.search.specs.Tables.{spent_on, Priced, Owed, Stands, Tabled, Known};
 
 use crate::sheet::Sheet;
 use kinds::kind::Kind;
@@ -52,7 +52,7 @@ impl Sheet {
     // Whether one of the triples does not fit that the pair at the place closes.
     fn closes_misfit<K: Kind, T: Tally>(&self, spot: usize) -> bool
         requires { spot < pairs_of self.now.items }
-        ensures { unfit (rules-of self.now K.Kind.fit T.Joins.joining T.Tally.order) self.now.items spot (cursor-of self.now) ≡ false → unfit (rules-of self.now K.Kind.fit T.Joins.joining T.Tally.order) self.now.items (spot + 1) (cursor-of self.now) ≡ result }
+        ensures { unfit (rules_of self.now K.Kind.fit T.Joins.joining T.Tally.order) self.now.items spot (cursor_of self.now) ≡ false → unfit (rules_of self.now K.Kind.fit T.Joins.joining T.Tally.order) self.now.items (spot + 1) (cursor_of self.now) ≡ result }
     {
         let (low, high) = sides(spot);
         misfits::<K>(
@@ -73,10 +73,10 @@ impl Sheet {
         best: T::Cost,
     ) -> T::Cost
         requires within { length ≤ pairs_of self.now.items }
-        requires long { length-of prices.now ≡ 4224 }
+        requires long { length_of prices.now ≡ 4224 }
         requires priced { Priced T.Joins.joining self.now.codes (rows_of self.now) 0 (pairs_of self.now.items) prices.now }
-        requires known { Known (rules-of self.now K.Kind.fit T.Joins.joining T.Tally.order) self.now.items (rows_of self.now) best (cursor-of self.now) length spent.now }
-        ensures { result ≡ spent-on T.Joins.joining (rows_of self.now) (cursor-of self.now) length }
+        requires known { Known (rules_of self.now K.Kind.fit T.Joins.joining T.Tally.order) self.now.items (rows_of self.now) best (cursor_of self.now) length spent.now }
+        ensures { result ≡ spent_on T.Joins.joining (rows_of self.now) (cursor_of self.now) length }
     {
         if length == 0 {
             return T::empty();
@@ -94,11 +94,11 @@ impl Sheet {
         best: T::Cost,
     ) -> bool
         requires within { length ≤ pairs_of self.now.items }
-        requires long { length-of owed.now ≡ 67 }
+        requires long { length_of owed.now ≡ 67 }
         requires owed { Owed T.Joins.joining T.Tally.order self.now.codes (rows_of self.now) 0 (pairs_of self.now.items) owed.now }
-        requires cost { cost ≡ spent-on T.Joins.joining (rows_of self.now) (cursor-of self.now) length }
-        requires stands { Stands (rules-of self.now K.Kind.fit T.Joins.joining T.Tally.order) self.now.items (rows_of self.now) best (cursor-of self.now) length }
-        ensures { refuted (rules-of self.now K.Kind.fit T.Joins.joining T.Tally.order) self.now.items (rows_of self.now) best (cursor-of self.now) length ≡ result }
+        requires cost { cost ≡ spent_on T.Joins.joining (rows_of self.now) (cursor_of self.now) length }
+        requires stands { Stands (rules_of self.now K.Kind.fit T.Joins.joining T.Tally.order) self.now.items (rows_of self.now) best (cursor_of self.now) length }
+        ensures { refuted (rules_of self.now K.Kind.fit T.Joins.joining T.Tally.order) self.now.items (rows_of self.now) best (cursor_of self.now) length ≡ result }
     {
         let bound = T::join(cost, owed[length]);
         if T::at_most(best, bound) {
@@ -120,11 +120,11 @@ impl Sheet {
         best: T::Cost,
     ) -> usize
         requires within { from ≤ pairs_of self.now.items }
-        requires tabled { Tabled (rules-of self.now K.Kind.fit T.Joins.joining T.Tally.order) self.now.items (rows_of self.now) prices.now owed.now }
-        requires known { Known (rules-of self.now K.Kind.fit T.Joins.joining T.Tally.order) self.now.items (rows_of self.now) best (cursor-of self.now) from spent.old }
-        ensures is { result ≡ first_passing (refuted (rules-of self.now K.Kind.fit T.Joins.joining T.Tally.order) self.now.items (rows_of self.now) best (cursor-of self.now)) (pairs_of self.now.items + 1) 0 }
+        requires tabled { Tabled (rules_of self.now K.Kind.fit T.Joins.joining T.Tally.order) self.now.items (rows_of self.now) prices.now owed.now }
+        requires known { Known (rules_of self.now K.Kind.fit T.Joins.joining T.Tally.order) self.now.items (rows_of self.now) best (cursor_of self.now) from spent.old }
+        ensures is { result ≡ first_passing (refuted (rules_of self.now K.Kind.fit T.Joins.joining T.Tally.order) self.now.items (rows_of self.now) best (cursor_of self.now)) (pairs_of self.now.items + 1) 0 }
         ensures within { result ≤ pairs_of self.now.items + 1 }
-        ensures known { Known (rules-of self.now K.Kind.fit T.Joins.joining T.Tally.order) self.now.items (rows_of self.now) best (cursor-of self.now) result spent.new }
+        ensures known { Known (rules_of self.now K.Kind.fit T.Joins.joining T.Tally.order) self.now.items (rows_of self.now) best (cursor_of self.now) result spent.new }
     {
         let count = pairs(self.items);
         let mut length = from;

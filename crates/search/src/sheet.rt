@@ -2,7 +2,7 @@
 ghost use Rattle.std.specs.Prelude.{◌≡◌, ◌≤◌, true, length, take, vec_capacity};
 ghost use Rattle.points.specs.Scenarios.{pairs};
 ghost use Rattle.rules.specs.Properly.{proper};
-ghost use Rattle.search.specs.Sheets.{all-below};
+ghost use Rattle.search.specs.Sheets.{all_below};
 
 use rules::row::Row;
 
@@ -24,6 +24,6 @@ pub struct Sheet {
     ghost narrow: { codes ≤ 64 },
     ghost long: { length incumbent ≡ 66 },
     ghost wide: { length cursor ≡ 66 },
-    ghost held: { all-below codes (take (pairs items) incumbent) ≡ true },
-    ghost marked: { all-below codes (take (pairs items) cursor) ≡ true },
+    ghost held: { all_below codes (take (pairs items) incumbent) ≡ true },
+    ghost marked: { all_below codes (take (pairs items) cursor) ≡ true },
 }

@@ -1,8 +1,8 @@
 // The costs and bounds that a search looks up.
 ghost use Rattle.std.specs.Prelude.{◌≡◌, ℕ, ◌+◌, ◌*◌, ◌<◌, ◌≤◌, Bool, length, slice_index_or};
 ghost use Rattle.points.specs.Scenarios.{pairs as pairs_of};
-ghost use Rattle.rules.specs.Costs.{pair-cost, pair-bound};
-ghost use Rattle.search.specs.Closed.{rows_of, rules-of};
+ghost use Rattle.rules.specs.Costs.{pair_cost, pair_bound};
+ghost use Rattle.search.specs.Closed.{rows_of, rules_of};
 ghost use Rattle.search.specs.Tables.{Priced, Owed, Tabled};
 
 use crate::cost::{lesser, pair_price};
@@ -17,9 +17,9 @@ fn price_pair<T: Tally>(prices: &mut [T::Cost], rows: &[Row], codes: u8, spot: u
     requires coded { (1 ≤ codes) × (codes ≤ 64) }
     requires within { spot < 66 }
     requires long { length prices.old ≡ 4224 }
-    ensures is { result ≡ pair-bound T.Joins.joining T.Tally.order codes rows.now spot }
+    ensures is { result ≡ pair_bound T.Joins.joining T.Tally.order codes rows.now spot }
     ensures long { length prices.new ≡ 4224 }
-    ensures here { (c : ℕ) → c < codes → slice_index_or prices.new (spot * 64 + c) T.Joins.joining.empty ≡ pair-cost T.Joins.joining rows.now spot c }
+    ensures here { (c : ℕ) → c < codes → slice_index_or prices.new (spot * 64 + c) T.Joins.joining.empty ≡ pair_cost T.Joins.joining rows.now spot c }
     ensures later { (x : ℕ) → (spot + 1) * 64 ≤ x → slice_index_or prices.new x T.Joins.joining.empty ≡ slice_index_or prices.old x T.Joins.joining.empty }
 {
     let mut least = pair_price::<T>(rows, spot, 0);
@@ -37,7 +37,7 @@ impl Sheet {
     // bounds of the pairs from each place on.
     pub(crate) fn fill<T: Tally>(&self, prices: &mut [T::Cost], owed: &mut [T::Cost])
         requires { (length prices.old ≡ 4224) × (length owed.old ≡ 67) }
-        ensures { (fit : ℕ → ℕ → ℕ → Bool) → Tabled (rules-of self.now fit T.Joins.joining T.Tally.order) self.now.items (rows_of self.now) prices.new owed.new }
+        ensures { (fit : ℕ → ℕ → ℕ → Bool) → Tabled (rules_of self.now fit T.Joins.joining T.Tally.order) self.now.items (rows_of self.now) prices.new owed.new }
     {
         let count = pairs(self.items);
         owed[count] = T::empty();

@@ -1,13 +1,13 @@
 // A closed sheet, which searches for values that break its statements at least cost.
 ghost use Rattle.std.specs.Prelude.{◌≡◌, length, IfOk};
 ghost use Rattle.points.specs.Scenarios.{entry as entry_of};
-ghost use Rattle.rules.specs.Costs.{charge as charge-of};
+ghost use Rattle.rules.specs.Costs.{charge as charge_of};
 ghost use Rattle.rules.specs.Steps.{opening};
 ghost use Rattle.rules.specs.Soundness.{rules};
-ghost use Rattle.search.specs.Closed.{rows_of, position-of, rules-of};
-ghost use Rattle.statements.specs.Drafts.{By-checks};
-ghost use Rattle.statements.specs.Searches.{search-checks, show-checks, charge-checks};
-ghost use Rattle.sheets.specs.Closed.{Has-parts, Sound-sheet, Searched, Keeps, Shows, Settles};
+ghost use Rattle.search.specs.Closed.{rows_of, position_of, rules_of};
+ghost use Rattle.statements.specs.Drafts.{ByChecks};
+ghost use Rattle.statements.specs.Searches.{search_checks, show_checks, charge_checks};
+ghost use Rattle.sheets.specs.Closed.{HasParts, SoundSheet, Searched, Keeps, Shows, Settles};
 
 use crate::held::Draft;
 use kinds::kind::Kind;
@@ -36,9 +36,9 @@ pub struct Shown<C> {
 impl<K: Kind, T: Tally> Draft<K, T> {
     /// Closes the draft: the scenario of all zeros is the incumbent, and the cursor is at the next.
     pub fn close(self) -> Closed<K, T>
-        ensures parts { Has-parts result.sheet self.items self.rows.items K.Kind.meaning.codes }
-        ensures opens { position-of result.sheet ≡ opening self.items }
-        ensures sound { Sound-sheet K.Kind.meaning (rules K.Kind.meaning K.Kind.fit T.Joins.joining T.Tally.order) result.sheet }
+        ensures parts { HasParts result.sheet self.items self.rows.items K.Kind.meaning.codes }
+        ensures opens { position_of result.sheet ≡ opening self.items }
+        ensures sound { SoundSheet K.Kind.meaning (rules K.Kind.meaning K.Kind.fit T.Joins.joining T.Tally.order) result.sheet }
     {
         let Draft {
             items,
@@ -85,8 +85,8 @@ impl<K: Kind, T: Tally> Closed<K, T> {
 
     /// Takes up to so many steps, at most 1,000,000, and fewer only if the search finishes. Answers how many it took.
     pub fn search(&mut self, steps: u32) -> Result<u32, Fault>
-        ensures answers { By-checks (search-checks steps) result (λ t. Searched (rules-of self.old.sheet K.Kind.fit T.Joins.joining T.Tally.order) self.old.sheet self.new.sheet steps t) (self.new.sheet ≡ self.old.sheet) }
-        ensures keeps { Sound-sheet K.Kind.meaning (rules K.Kind.meaning K.Kind.fit T.Joins.joining T.Tally.order) self.old.sheet → IfOk result (λ t. Keeps K.Kind.meaning (rules K.Kind.meaning K.Kind.fit T.Joins.joining T.Tally.order) self.old.sheet self.new.sheet steps t) }
+        ensures answers { ByChecks (search_checks steps) result (λ t. Searched (rules_of self.old.sheet K.Kind.fit T.Joins.joining T.Tally.order) self.old.sheet self.new.sheet steps t) (self.new.sheet ≡ self.old.sheet) }
+        ensures keeps { SoundSheet K.Kind.meaning (rules K.Kind.meaning K.Kind.fit T.Joins.joining T.Tally.order) self.old.sheet → IfOk result (λ t. Keeps K.Kind.meaning (rules K.Kind.meaning K.Kind.fit T.Joins.joining T.Tally.order) self.old.sheet self.new.sheet steps t) }
     {
         if steps > 1000000 {
             return Err(Fault::Steps);
@@ -97,8 +97,8 @@ impl<K: Kind, T: Tally> Closed<K, T> {
     /// Writes the values of the incumbent, one for each item, to the front of the page; the rest of the page stays. Refused if the page
     /// is too short, and the page is then as it was.
     pub fn show(&self, page: &mut [K::Value]) -> Result<Shown<T::Cost>, Fault>
-        ensures answers { By-checks (show-checks self.now.sheet.items (length page.old)) result (Shows K.Kind.values (rules-of self.now.sheet K.Kind.fit T.Joins.joining T.Tally.order) self.now.sheet page.old page.new) (page.new ≡ page.old) }
-        ensures settles { Sound-sheet K.Kind.meaning (rules K.Kind.meaning K.Kind.fit T.Joins.joining T.Tally.order) self.now.sheet → IfOk result (Settles K.Kind.meaning (rules K.Kind.meaning K.Kind.fit T.Joins.joining T.Tally.order) self.now.sheet page.new) }
+        ensures answers { ByChecks (show_checks self.now.sheet.items (length page.old)) result (Shows K.Kind.values (rules_of self.now.sheet K.Kind.fit T.Joins.joining T.Tally.order) self.now.sheet page.old page.new) (page.new ≡ page.old) }
+        ensures settles { SoundSheet K.Kind.meaning (rules K.Kind.meaning K.Kind.fit T.Joins.joining T.Tally.order) self.now.sheet → IfOk result (Settles K.Kind.meaning (rules K.Kind.meaning K.Kind.fit T.Joins.joining T.Tally.order) self.now.sheet page.new) }
     {
         if page.len() < self.sheet.items() as usize {
             return Err(Fault::Short);
@@ -113,7 +113,7 @@ impl<K: Kind, T: Tally> Closed<K, T> {
 
     /// The charge of a person: the join of the penalties of that person's counting statements that the incumbent breaks.
     pub fn charge(&self, person: u32) -> Result<T::Cost, Fault>
-        ensures { By-checks (charge-checks person) result (λ c. c ≡ charge-of T.Joins.joining (rows_of self.now.sheet) (entry_of (position-of self.now.sheet).incumbent) person) (Unit {0}) }
+        ensures { ByChecks (charge_checks person) result (λ c. c ≡ charge_of T.Joins.joining (rows_of self.now.sheet) (entry_of (position_of self.now.sheet).incumbent) person) (Unit {0}) }
     {
         if person < 1 || person > 20 {
             return Err(Fault::Person);

@@ -1,9 +1,9 @@
 // The calls of a draft.
 ghost use Rattle.std.specs.Prelude.{◌≡◌, ◌+◌, ◌-◌, ◌<◌, true, [], ◌∷◌, ◌++◌, length, set, MatchResult, slice_set};
 ghost use Rattle.statements.specs.declared.fault.Fault.TheVariants.{Memory};
-ghost use Rattle.rules.specs.Properly.{row-proper};
-ghost use Rattle.rules.specs.Rows.{with-struck, with-weight};
-ghost use Rattle.statements.specs.Drafts.{By-checks, Unchanged, size-checks, enter-checks, row_of, numbered, strike-checks, reweigh-checks, look-checks, Says};
+ghost use Rattle.rules.specs.Properly.{row_proper};
+ghost use Rattle.rules.specs.Rows.{with_struck, with_weight};
+ghost use Rattle.statements.specs.Drafts.{ByChecks, Unchanged, size_checks, enter_checks, row_of, numbered, strike_checks, reweigh_checks, look_checks, Says};
 
 use crate::held::Draft;
 use crate::table::Table;
@@ -39,7 +39,7 @@ impl<K: Kind, T: Tally> Draft<K, T> {
 
     /// Sets the number of items, 1 to 12, and empties the list.
     pub fn size(&mut self, items: u32) -> Result<(), Fault>
-        ensures { By-checks (size-checks items) result (λ _. (self.new.items ≡ items) × (self.new.rows.items ≡ [])) (Unchanged self.old.items self.old.rows.items self.new.items self.new.rows.items) }
+        ensures { ByChecks (size_checks items) result (λ _. (self.new.items ≡ items) × (self.new.rows.items ≡ [])) (Unchanged self.old.items self.old.rows.items self.new.items self.new.rows.items) }
     {
         if items < 1 || items > 12 {
             return Err(Fault::Size);
@@ -51,7 +51,7 @@ impl<K: Kind, T: Tally> Draft<K, T> {
 
     /// Appends a statement and answers its number.
     pub fn enter(&mut self, entry: Entry) -> Result<u16, Fault>
-        ensures { By-checks (enter-checks K.Kind.meaning.codes self.old.items self.old.rows.items entry) result (λ n. (n ≡ length self.old.rows.items + 1) × (self.new.items ≡ self.old.items) × (self.new.rows.items ≡ self.old.rows.items ++ row_of K.Kind.meaning.converse K.Kind.meaning.codes entry ∷ [])) (Unchanged self.old.items self.old.rows.items self.new.items self.new.rows.items) }
+        ensures { ByChecks (enter_checks K.Kind.meaning.codes self.old.items self.old.rows.items entry) result (λ n. (n ≡ length self.old.rows.items + 1) × (self.new.items ≡ self.old.items) × (self.new.rows.items ≡ self.old.rows.items ++ row_of K.Kind.meaning.converse K.Kind.meaning.codes entry ∷ [])) (Unchanged self.old.items self.old.rows.items self.new.items self.new.rows.items) }
     {
         let row = entry.row::<K>(self.items)?;
         if self.rows.len() >= 256 {
@@ -62,7 +62,7 @@ impl<K: Kind, T: Tally> Draft<K, T> {
 
     /// Appends a proper row, for which there is room, and answers its number.
     fn append(&mut self, row: Row) -> u16
-        requires { (row-proper self.old.items row ≡ true) × (length self.old.rows.items < 256) }
+        requires { (row_proper self.old.items row ≡ true) × (length self.old.rows.items < 256) }
         ensures { (result ≡ length self.old.rows.items + 1) × (self.new.items ≡ self.old.items) × (self.new.rows.items ≡ self.old.rows.items ++ row ∷ []) }
     {
         match self.rows.push(row) {
@@ -73,7 +73,7 @@ impl<K: Kind, T: Tally> Draft<K, T> {
 
     /// Strikes a statement: its mark is set, and no other row is touched.
     pub fn strike(&mut self, number: u32) -> Result<(), Fault>
-        ensures { By-checks (strike-checks self.old.rows.items number) result (λ _. (self.new.items ≡ self.old.items) × (self.new.rows.items ≡ slice_set self.old.rows.items (number - 1) (with-struck (numbered self.old.rows.items number)))) (Unchanged self.old.items self.old.rows.items self.new.items self.new.rows.items) }
+        ensures { ByChecks (strike_checks self.old.rows.items number) result (λ _. (self.new.items ≡ self.old.items) × (self.new.rows.items ≡ slice_set self.old.rows.items (number - 1) (with_struck (numbered self.old.rows.items number)))) (Unchanged self.old.items self.old.rows.items self.new.items self.new.rows.items) }
     {
         let i = self.find_live(number)?;
         self.rows.entry_mut(i).struck = true;
@@ -82,7 +82,7 @@ impl<K: Kind, T: Tally> Draft<K, T> {
 
     /// Gives a statement that has not been struck another weight.
     pub fn reweigh(&mut self, number: u32, weight: u32) -> Result<(), Fault>
-        ensures { By-checks (reweigh-checks self.old.rows.items number weight) result (λ _. (self.new.items ≡ self.old.items) × (self.new.rows.items ≡ slice_set self.old.rows.items (number - 1) (with-weight (numbered self.old.rows.items number) weight))) (Unchanged self.old.items self.old.rows.items self.new.items self.new.rows.items) }
+        ensures { ByChecks (reweigh_checks self.old.rows.items number weight) result (λ _. (self.new.items ≡ self.old.items) × (self.new.rows.items ≡ slice_set self.old.rows.items (number - 1) (with_weight (numbered self.old.rows.items number) weight))) (Unchanged self.old.items self.old.rows.items self.new.items self.new.rows.items) }
     {
         let at = self.find_live(number)?;
         if weight < 1 || weight > 1000 {
@@ -94,7 +94,7 @@ impl<K: Kind, T: Tally> Draft<K, T> {
 
     /// What a statement says, and whether it has been struck.
     pub fn look(&self, number: u32) -> Result<(Statement, bool), Fault>
-        ensures { By-checks (look-checks self.now.rows.items number) result (λ a. Says a.0 (numbered self.now.rows.items number) × (a.1 ≡ (numbered self.now.rows.items number).struck)) (Unit {0}) }
+        ensures { ByChecks (look_checks self.now.rows.items number) result (λ a. Says a.0 (numbered self.now.rows.items number) × (a.1 ≡ (numbered self.now.rows.items number).struck)) (Unit {0}) }
     {
         let i = self.find(number)?;
         let row = self.rows[i];
@@ -106,7 +106,7 @@ impl<K: Kind, T: Tally> Draft<K, T> {
 
     /// Where the statement with a number stands in the list.
     fn find(&self, number: u32) -> Result<usize, Fault>
-        ensures { By-checks (look-checks self.now.rows.items number) result (λ i. (i ≡ number - 1) × (i < length self.now.rows.items)) (Unit {0}) }
+        ensures { ByChecks (look_checks self.now.rows.items number) result (λ i. (i ≡ number - 1) × (i < length self.now.rows.items)) (Unit {0}) }
     {
         if number < 1 || number as usize > self.rows.len() {
             return Err(Fault::Missing);
@@ -116,7 +116,7 @@ impl<K: Kind, T: Tally> Draft<K, T> {
 
     /// Where the statement with a number stands in the list, if it has not been struck.
     fn find_live(&self, number: u32) -> Result<usize, Fault>
-        ensures { By-checks (strike-checks self.now.rows.items number) result (λ i. (i ≡ number - 1) × (i < length self.now.rows.items)) (Unit {0}) }
+        ensures { ByChecks (strike_checks self.now.rows.items number) result (λ i. (i ≡ number - 1) × (i < length self.now.rows.items)) (Unit {0}) }
     {
         let i = self.find(number)?;
         if self.rows[i].struck {

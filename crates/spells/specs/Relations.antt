@@ -49,23 +49,23 @@ code FinishedBy = 12
 
 -- The relation by four comparisons: of the starts, of the first's start with the second's end, of the first's end with the second's
 -- start, of the ends. It is the one that holds where the spells are lawful, and for other numbers what these lines say.
-abbrev pub by-ends : Ordering → Ordering → Ordering → Ordering → Relation
-by-ends Ordering.eq se es Ordering.eq = Equals
-by-ends Ordering.eq se es Ordering.lt = Starts
-by-ends Ordering.eq se es Ordering.gt = StartedBy
-by-ends Ordering.lt se es Ordering.eq = FinishedBy
-by-ends Ordering.lt se es Ordering.gt = Contains
-by-ends Ordering.lt se Ordering.lt Ordering.lt = Before
-by-ends Ordering.lt se Ordering.eq Ordering.lt = Meets
-by-ends Ordering.lt se Ordering.gt Ordering.lt = Overlaps
-by-ends Ordering.gt se es Ordering.eq = Finishes
-by-ends Ordering.gt se es Ordering.lt = During
-by-ends Ordering.gt Ordering.gt es Ordering.gt = After
-by-ends Ordering.gt Ordering.eq es Ordering.gt = MetBy
-by-ends Ordering.gt Ordering.lt es Ordering.gt = OverlappedBy
+abbrev pub by_ends : Ordering → Ordering → Ordering → Ordering → Relation
+by_ends Ordering.eq se es Ordering.eq = Equals
+by_ends Ordering.eq se es Ordering.lt = Starts
+by_ends Ordering.eq se es Ordering.gt = StartedBy
+by_ends Ordering.lt se es Ordering.eq = FinishedBy
+by_ends Ordering.lt se es Ordering.gt = Contains
+by_ends Ordering.lt se Ordering.lt Ordering.lt = Before
+by_ends Ordering.lt se Ordering.eq Ordering.lt = Meets
+by_ends Ordering.lt se Ordering.gt Ordering.lt = Overlaps
+by_ends Ordering.gt se es Ordering.eq = Finishes
+by_ends Ordering.gt se es Ordering.lt = During
+by_ends Ordering.gt Ordering.gt es Ordering.gt = After
+by_ends Ordering.gt Ordering.eq es Ordering.gt = MetBy
+by_ends Ordering.gt Ordering.lt es Ordering.gt = OverlappedBy
 
 abbrev pub related : Spell → Spell → Relation
-related u v = by-ends (compare u.start v.start) (compare u.start v.end) (compare u.end v.start) (compare u.end v.end)
+related u v = by_ends (compare u.start v.start) (compare u.start v.end) (compare u.end v.start) (compare u.end v.end)
 
 -- How the ends of two spells stand under a relation: start to start, start to end, end to start, end to end.
 abbrev pub Ends : Type 0

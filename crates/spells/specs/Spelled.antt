@@ -5,21 +5,21 @@ use Prim.Native.Nat.{Ordering, compare}
 use Rattle.std.proofs.lemmas.List.{get_or_past, get_or-map}
 use Rattle.points.specs.Points.{Says, compose, same}
 use Rattle.points.specs.Tests.{both}
-use Rattle.points.proofs.Finite.{both_left, both_right, both-from, implies, implied, every, every-at}
-use Rattle.points.proofs.Compare.{said, says, same-eq, compare-lt, compare-gt, compare_self, compose-compare}
+use Rattle.points.proofs.Finite.{both_left, both_right, both_from, implies, implied, every, every_at}
+use Rattle.points.proofs.Compare.{said, says, same_eq, compare_lt, compare_gt, compare_self, compose_compare}
 use Rattle.kinds.specs.Meaning.{Realisation}
 use Rattle.kinds.proofs.Framed.{Frame, realises}
 use Rattle.spells.specs.declared.spell.Spell.{Spell}
 use Rattle.spells.specs.declared.spell.Relation.{Relation}
 use Rattle.spells.specs.declared.spell.Relation.TheVariants.{Equals, Before, After, Meets, MetBy, Overlaps, OverlappedBy, Starts, StartedBy, During, Contains, Finishes, FinishedBy}
-use Rattle.spells.specs.Relations.{Lawful, Holds, relations, coded, code, by-ends, related, Ends, ends}
+use Rattle.spells.specs.Relations.{Lawful, Holds, relations, coded, code, by_ends, related, Ends, ends}
 use Rattle.spells.specs.Spells.{spells, pick, level, side, timeline, spell}
 
 -- what the four comparisons of a relation say
-abbrev All-say : Ends → Spell → Spell → Type 0
-All-say q u v = Says q.0 u.start v.start × Says q.1 u.start v.end × Says q.2 u.end v.start × Says q.3 u.end v.end
+abbrev AllSay : Ends → Spell → Spell → Type 0
+AllSay q u v = Says q.0 u.start v.start × Says q.1 u.start v.end × Says q.2 u.end v.start × Says q.3 u.end v.end
 
-ends_of : (p : Relation) (u v : Spell) → Lawful u → Lawful v → Holds p u v → All-say (ends p) u v
+ends_of : (p : Relation) (u v : Spell) → Lawful u → Lawful v → Holds p u v → AllSay (ends p) u v
 ends_of Equals u v hu hv h = omega arith
 ends_of Before u v hu hv h = omega arith
 ends_of After u v hu hv h = omega arith
@@ -34,20 +34,20 @@ ends_of Contains u v hu hv h = omega arith
 ends_of Finishes u v hu hv h = omega arith
 ends_of FinishedBy u v hu hv h = omega arith
 
-of-ends : (p : Relation) (u v : Spell) → Lawful u → Lawful v → All-say (ends p) u v → Holds p u v
-of-ends Equals u v hu hv h = omega arith
-of-ends Before u v hu hv h = omega arith
-of-ends After u v hu hv h = omega arith
-of-ends Meets u v hu hv h = omega arith
-of-ends MetBy u v hu hv h = omega arith
-of-ends Overlaps u v hu hv h = omega arith
-of-ends OverlappedBy u v hu hv h = omega arith
-of-ends Starts u v hu hv h = omega arith
-of-ends StartedBy u v hu hv h = omega arith
-of-ends During u v hu hv h = omega arith
-of-ends Contains u v hu hv h = omega arith
-of-ends Finishes u v hu hv h = omega arith
-of-ends FinishedBy u v hu hv h = omega arith
+of_ends : (p : Relation) (u v : Spell) → Lawful u → Lawful v → AllSay (ends p) u v → Holds p u v
+of_ends Equals u v hu hv h = omega arith
+of_ends Before u v hu hv h = omega arith
+of_ends After u v hu hv h = omega arith
+of_ends Meets u v hu hv h = omega arith
+of_ends MetBy u v hu hv h = omega arith
+of_ends Overlaps u v hu hv h = omega arith
+of_ends OverlappedBy u v hu hv h = omega arith
+of_ends Starts u v hu hv h = omega arith
+of_ends StartedBy u v hu hv h = omega arith
+of_ends During u v hu hv h = omega arith
+of_ends Contains u v hu hv h = omega arith
+of_ends Finishes u v hu hv h = omega arith
+of_ends FinishedBy u v hu hv h = omega arith
 
 code_below : (p : Relation) → code p < 13
 code_below Equals = omega arith
@@ -64,20 +64,20 @@ code_below Contains = omega arith
 code_below Finishes = omega arith
 code_below FinishedBy = omega arith
 
-ends-coded : (p : Relation) → slice_index_or (map ends relations) (code p) level ≡ ends p
-ends-coded Equals = refl
-ends-coded Before = refl
-ends-coded After = refl
-ends-coded Meets = refl
-ends-coded MetBy = refl
-ends-coded Overlaps = refl
-ends-coded OverlappedBy = refl
-ends-coded Starts = refl
-ends-coded StartedBy = refl
-ends-coded During = refl
-ends-coded Contains = refl
-ends-coded Finishes = refl
-ends-coded FinishedBy = refl
+ends_coded : (p : Relation) → slice_index_or (map ends relations) (code p) level ≡ ends p
+ends_coded Equals = refl
+ends_coded Before = refl
+ends_coded After = refl
+ends_coded Meets = refl
+ends_coded MetBy = refl
+ends_coded Overlaps = refl
+ends_coded OverlappedBy = refl
+ends_coded Starts = refl
+ends_coded StartedBy = refl
+ends_coded During = refl
+ends_coded Contains = refl
+ends_coded Finishes = refl
+ends_coded FinishedBy = refl
 
 -- four comparisons that the ends of lawful spells can have
 abbrev possible : Ordering → Ordering → Ordering → Ordering → Bool
@@ -88,56 +88,56 @@ these q ss se es ee = both (both (same ss q.0) (same se q.1)) (both (same es q.2
 
 -- are those of the relation that they single out
 abbrev told : Ordering → Ordering → Ordering → Ordering → Bool
-told ss se es ee = implies (possible ss se es ee) (these (ends (by-ends ss se es ee)) ss se es ee)
+told ss se es ee = implies (possible ss se es ee) (these (ends (by_ends ss se es ee)) ss se es ee)
 
 all_told : (ss se es ee : Ordering) → T (told ss se es ee)
 all_told ss se es ee =
-    every-at (λ d. told ss se es d) (every-at (λ c. every (λ d. told ss se c d)) (every-at (λ b. every (λ c. every (λ d. told ss b c d)))
-    (every-at (λ a. every (λ b. every (λ c. every (λ d. told a b c d)))) tt ss) se) es) ee
+    every_at (λ d. told ss se es d) (every_at (λ c. every (λ d. told ss se c d)) (every_at (λ b. every (λ c. every (λ d. told ss b c d)))
+    (every_at (λ a. every (λ b. every (λ c. every (λ d. told a b c d)))) tt ss) se) es) ee
 
-later-lt : (x y z : ℕ) → y < z → T (compose (compare x y) Prim.Native.Nat.Ordering.lt (compare x z))
-later-lt x y z h = subst (λ (o : Ordering). T (compose (compare x y) o (compare x z))) (compare-lt y z h) (compose-compare x y z)
+later_lt : (x y z : ℕ) → y < z → T (compose (compare x y) Prim.Native.Nat.Ordering.lt (compare x z))
+later_lt x y z h = subst (λ (o : Ordering). T (compose (compare x y) o (compare x z))) (compare_lt y z h) (compose_compare x y z)
 
-first-lt : (x y z : ℕ) → x < y → T (compose Prim.Native.Nat.Ordering.lt (compare y z) (compare x z))
-first-lt x y z h = subst (λ (o : Ordering). T (compose o (compare y z) (compare x z))) (compare-lt x y h) (compose-compare x y z)
+first_lt : (x y z : ℕ) → x < y → T (compose Prim.Native.Nat.Ordering.lt (compare y z) (compare x z))
+first_lt x y z h = subst (λ (o : Ordering). T (compose o (compare y z) (compare x z))) (compare_lt x y h) (compose_compare x y z)
 
 -- the comparisons of two lawful spells are those of their relation
 pub record Told (u v : Spell) : Type 0 where
-  pub start-start : compare u.start v.start ≡ (ends (related u v)).0
-  pub start-end : compare u.start v.end ≡ (ends (related u v)).1
-  pub end-start : compare u.end v.start ≡ (ends (related u v)).2
-  pub end-end : compare u.end v.end ≡ (ends (related u v)).3
+  pub start_start : compare u.start v.start ≡ (ends (related u v)).0
+  pub start_end : compare u.start v.end ≡ (ends (related u v)).1
+  pub end_start : compare u.end v.start ≡ (ends (related u v)).2
+  pub end_end : compare u.end v.end ≡ (ends (related u v)).3
 
-related-told : (u v : Spell) → Lawful u → Lawful v → Told u v
-related-told u v hu hv =
+related_told : (u v : Spell) → Lawful u → Lawful v → Told u v
+related_told u v hu hv =
     let ss : Ordering = compare u.start v.start in
     let se : Ordering = compare u.start v.end in
     let es : Ordering = compare u.end v.start in
     let ee : Ordering = compare u.end v.end in
     let q : Ends = ends (related u v) in
     let can : T (possible ss se es ee) =
-    both-from (both (compose ss Prim.Native.Nat.Ordering.lt se) (compose es Prim.Native.Nat.Ordering.lt ee)) (both (compose Prim.Native.Nat.Ordering.lt es ss) (compose Prim.Native.Nat.Ordering.lt ee se))
-    (both-from (compose ss Prim.Native.Nat.Ordering.lt se) (compose es Prim.Native.Nat.Ordering.lt ee) (later-lt u.start v.start v.end hv) (later-lt u.end v.start v.end hv))
-    (both-from (compose Prim.Native.Nat.Ordering.lt es ss) (compose Prim.Native.Nat.Ordering.lt ee se) (first-lt u.start u.end v.start hu) (first-lt u.start u.end v.end hu)) in
+    both_from (both (compose ss Prim.Native.Nat.Ordering.lt se) (compose es Prim.Native.Nat.Ordering.lt ee)) (both (compose Prim.Native.Nat.Ordering.lt es ss) (compose Prim.Native.Nat.Ordering.lt ee se))
+    (both_from (compose ss Prim.Native.Nat.Ordering.lt se) (compose es Prim.Native.Nat.Ordering.lt ee) (later_lt u.start v.start v.end hv) (later_lt u.end v.start v.end hv))
+    (both_from (compose Prim.Native.Nat.Ordering.lt es ss) (compose Prim.Native.Nat.Ordering.lt ee se) (first_lt u.start u.end v.start hu) (first_lt u.start u.end v.end hu)) in
     let all : T (these q ss se es ee) = implied (possible ss se es ee) (these q ss se es ee) (all_told ss se es ee) can in
     let starts : T (both (same ss q.0) (same se q.1)) = both_left (both (same ss q.0) (same se q.1)) (both (same es q.2) (same ee q.3)) all in
     let finishes : T (both (same es q.2) (same ee q.3)) = both_right (both (same ss q.0) (same se q.1)) (both (same es q.2) (same ee q.3)) all in
     record {
-      start-start = same-eq ss q.0 (both_left (same ss q.0) (same se q.1) starts);
-      start-end = same-eq se q.1 (both_right (same ss q.0) (same se q.1) starts);
-      end-start = same-eq es q.2 (both_left (same es q.2) (same ee q.3) finishes);
-      end-end = same-eq ee q.3 (both_right (same es q.2) (same ee q.3) finishes);
+      start_start = same_eq ss q.0 (both_left (same ss q.0) (same se q.1) starts);
+      start_end = same_eq se q.1 (both_right (same ss q.0) (same se q.1) starts);
+      end_start = same_eq es q.2 (both_left (same es q.2) (same ee q.3) finishes);
+      end_end = same_eq ee q.3 (both_right (same es q.2) (same ee q.3) finishes);
     }
 
 -- a number that is no code says nothing
-pub side-beyond : (c s t : ℕ) → 13 ≤ c → side c s t ≡ Prim.Native.Nat.Ordering.eq
-side-beyond c s t h = ap (λ (q : Ends). pick q s t) (get_or_past (map ends relations) c level h) ∙ level-side s t
+pub side_beyond : (c s t : ℕ) → 13 ≤ c → side c s t ≡ Prim.Native.Nat.Ordering.eq
+side_beyond c s t h = ap (λ (q : Ends). pick q s t) (get_or_past (map ends relations) c level h) ∙ level_side s t
   where
-    level-side : (s t : ℕ) → pick level s t ≡ Prim.Native.Nat.Ordering.eq
-    level-side zero zero = refl
-    level-side zero (suc t) = refl
-    level-side (suc s) zero = refl
-    level-side (suc s) (suc t) = refl
+    level_side : (s t : ℕ) → pick level s t ≡ Prim.Native.Nat.Ordering.eq
+    level_side zero zero = refl
+    level_side zero (suc t) = refl
+    level_side (suc s) zero = refl
+    level_side (suc s) (suc t) = refl
 
 -- the number of an end
 abbrev number : Spell → ℕ → ℕ → ℕ
@@ -145,12 +145,12 @@ number v a zero = v.start
 number v a (suc s) = v.end
 
 -- four comparisons, by the marks
-by-marks : (u v : Spell) (q : Ends) → compare u.start v.start ≡ q.0 → compare u.start v.end ≡ q.1 → compare u.end v.start ≡ q.2 → compare u.end v.end ≡ q.3 →
+by_marks : (u v : Spell) (q : Ends) → compare u.start v.start ≡ q.0 → compare u.start v.end ≡ q.1 → compare u.end v.start ≡ q.2 → compare u.end v.end ≡ q.3 →
     (a s t : ℕ) → compare (number u a s) (number v a t) ≡ pick q s t
-by-marks u v q x y z w a zero zero = x
-by-marks u v q x y z w a zero (suc t) = y
-by-marks u v q x y z w a (suc s) zero = z
-by-marks u v q x y z w a (suc s) (suc t) = w
+by_marks u v q x y z w a zero zero = x
+by_marks u v q x y z w a zero (suc t) = y
+by_marks u v q x y z w a (suc s) zero = z
+by_marks u v q x y z w a (suc s) (suc t) = w
 
 pub spelled : Frame spells timeline
 spelled = record {
@@ -161,17 +161,17 @@ spelled = record {
   ascends = λ v h a s t ha hs ht. ascends v h a s t hs ht;
   lawful = λ v h. says Prim.Native.Nat.Ordering.lt v.start v.end (h 0 0 1 (omega arith) (omega arith) (omega arith));
   seen = λ u v hu hv c h.
-      let k : All-say (ends (coded c)) u v = ends_of (coded c) u v hu hv h.1 in (
+      let k : AllSay (ends (coded c)) u v = ends_of (coded c) u v hu hv h.1 in (
         h.0,
         λ a s t ha hs ht.
-            by-marks u v (ends (coded c)) (said (ends (coded c)).0 u.start v.start k.0) (said (ends (coded c)).1 u.start v.end k.1)
+            by_marks u v (ends (coded c)) (said (ends (coded c)).0 u.start v.start k.0) (said (ends (coded c)).1 u.start v.end k.1)
             (said (ends (coded c)).2 u.end v.start k.2) (said (ends (coded c)).3 u.end v.end k.3) a s t
             ∙ ap (λ (q : Ends). pick q s t) (sym (get_or-map ends relations c Equals level h.0)),
       );
   holds = λ u v hu hv c h e.
       let q : get_or (map ends relations) c level ≡ ends (coded c) = get_or-map ends relations c Equals level h in (
         h,
-        of-ends (coded c) u v hu hv (
+        of_ends (coded c) u v hu hv (
           says (ends (coded c)).0 u.start v.start (e 0 0 0 (omega arith) (omega arith) (omega arith) ∙ ap (λ (p : Ends). p.0) q),
           says (ends (coded c)).1 u.start v.end (e 0 0 1 (omega arith) (omega arith) (omega arith) ∙ ap (λ (p : Ends). p.1) q),
           says (ends (coded c)).2 u.end v.start (e 0 1 0 (omega arith) (omega arith) (omega arith) ∙ ap (λ (p : Ends). p.2) q),
@@ -181,9 +181,9 @@ spelled = record {
   told = λ u v hu hv. (
     code_below (related u v),
     λ a s t ha hs ht.
-        let k : Told u v = related-told u v hu hv in
-        by-marks u v (ends (related u v)) k.start-start k.start-end k.end-start k.end-end a s t
-        ∙ ap (λ (q : Ends). pick q s t) (sym (ends-coded (related u v))),
+        let k : Told u v = related_told u v hu hv in
+        by_marks u v (ends (related u v)) k.start_start k.start_end k.end_start k.end_end a s t
+        ∙ ap (λ (q : Ends). pick q s t) (sym (ends_coded (related u v))),
   );
   items = tt;
   selves = tt;
@@ -201,14 +201,14 @@ spelled = record {
 
     ascends : (v : Spell) → Lawful v → (a s t : ℕ) → s < 2 → t < 2 → compare (number v a s) (number v a t) ≡ compare s t
     ascends v h a zero zero hs ht = compare_self v.start
-    ascends v h a zero (suc zero) hs ht = compare-lt v.start v.end h
-    ascends v h a (suc zero) zero hs ht = compare-gt v.end v.start h
+    ascends v h a zero (suc zero) hs ht = compare_lt v.start v.end h
+    ascends v h a (suc zero) zero hs ht = compare_gt v.end v.start h
     ascends v h a (suc zero) (suc zero) hs ht = compare_self v.end
     ascends v h a zero (suc (suc t)) hs ht = absurd (not-suc-le-zero (le_of_suc-le-suc (le_of_suc-le-suc ht)))
     ascends v h a (suc zero) (suc (suc t)) hs ht = absurd (not-suc-le-zero (le_of_suc-le-suc (le_of_suc-le-suc ht)))
     ascends v h a (suc (suc s)) t hs ht = absurd (not-suc-le-zero (le_of_suc-le-suc (le_of_suc-le-suc hs)))
 
 -- counting the starts and ends before realises a scenario of spells
-pub spells-realise : Realisation spells spell
+pub spells_realise : Realisation spells spell
 unfolding spelled
-spells-realise n scenario some few h = realises spells timeline spelled n scenario h
+spells_realise n scenario some few h = realises spells timeline spelled n scenario h

@@ -2,7 +2,7 @@
 use Rattle.std.specs.Prelude.{ℕ, zero, suc, ◌<◌, List, [], ◌∷◌, map, codes, slice_index_or}
 use Prim.Native.Nat.{Ordering}
 use Rattle.kinds.specs.Meaning.{Meaning}
-use Rattle.kinds.specs.Layouts.{Layout, rank-on}
+use Rattle.kinds.specs.Layouts.{Layout, rank_on}
 use Rattle.spells.specs.declared.spell.Spell.{Spell}
 use Rattle.spells.specs.Relations.{Lawful, Holds, relations, coded, code, related, Ends, ends}
 
@@ -35,8 +35,8 @@ timeline = record { codes = 13; axes = 1; marks = 2; side = λ a c s t. side c s
 
 -- each end of a spell is written as how many of all items' starts and ends lie strictly before it
 abbrev pub spell : ℕ → List ℕ → ℕ → Spell
-spell n scenario i = record { start = rank-on timeline n scenario i 0 0; end = rank-on timeline n scenario i 0 1 }
+spell n scenario i = record { start = rank_on timeline n scenario i 0 0; end = rank_on timeline n scenario i 0 1 }
 
 -- eq p pi m mi o oi s si d di f fi
-abbrev pub spell-words : List (List ℕ)
-spell-words = codes "eq" ∷ codes "p" ∷ codes "pi" ∷ codes "m" ∷ codes "mi" ∷ codes "o" ∷ codes "oi" ∷ codes "s" ∷ codes "si" ∷ codes "d" ∷ codes "di" ∷ codes "f" ∷ codes "fi" ∷ []
+abbrev pub spell_words : List (List ℕ)
+spell_words = codes "eq" ∷ codes "p" ∷ codes "pi" ∷ codes "m" ∷ codes "mi" ∷ codes "o" ∷ codes "oi" ∷ codes "s" ∷ codes "si" ∷ codes "d" ∷ codes "di" ∷ codes "f" ∷ codes "fi" ∷ []

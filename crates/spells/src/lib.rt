@@ -3,10 +3,10 @@
 
 ghost use Rattle.std.specs.Prelude.{◌≡◌};
 ghost use Rattle.kinds.specs.Layouts.{fit};
-ghost use Rattle.spells.specs.Spells.{spells as spell-meaning, timeline as timeline-layout, spell as spell-at, spell-words, spells};
+ghost use Rattle.spells.specs.Spells.{spells as spell_meaning, timeline as timeline_layout, spell as spell_at, spell_words, spells};
 ghost use Rattle.kinds.proofs.Framed.{laws};
 ghost use Rattle.spells.specs.Spells as SpecsSpells;
-ghost use Rattle.spells.specs.Spelled.{spelled, spells-realise};
+ghost use Rattle.spells.specs.Spelled.{spelled, spells_realise};
 ghost use Rattle.kinds.proofs.Framed;
 ghost use Rattle.kinds.proofs.Worded;
 
@@ -27,17 +27,17 @@ impl Kind for Spells {
 
     const CODES: u8 = 13;
 
-    ghost meaning = { spell-meaning };
+    ghost meaning = { spell_meaning };
 
-    ghost fit = { fit timeline-layout };
+    ghost fit = { fit timeline_layout };
 
-    ghost values = { spell-at };
+    ghost values = { spell_at };
 
     ghost lawful = { laws spells SpecsSpells.timeline spelled };
 
     ghost composes = { Framed.composes spells SpecsSpells.timeline spelled };
 
-    ghost realises = { spells-realise };
+    ghost realises = { spells_realise };
 
     fn count() -> u8 {
         Self::CODES
@@ -72,9 +72,9 @@ impl Kind for Spells {
 impl Notation for Spells {
     ghost initial = { 83 };
 
-    ghost words = { spell-words };
+    ghost words = { spell_words };
 
-    ghost unambiguous = { Worded.unambiguous spell-words tt };
+    ghost unambiguous = { Worded.unambiguous spell_words tt };
 
     fn letter() -> u8 {
         b'S'

@@ -3,7 +3,7 @@ ghost use Rattle.std.specs.Prelude.{◌≡◌, ℕ};
 ghost use Rattle.points.specs.Marks.{Draws};
 ghost use Rattle.points.specs.Sets.{has};
 ghost use Rattle.kinds.specs.Layouts.{fit};
-ghost use Rattle.spells.specs.Spells.{timeline as timeline-layout};
+ghost use Rattle.spells.specs.Spells.{timeline as timeline_layout};
 
 use points::axis::Axis;
 
@@ -286,7 +286,7 @@ const TIMELINE: Axis = Axis {
 
 /// The composition of two base relations, by the table; empty where one is no code.
 pub fn composed(c: u8, d: u8) -> u64
-    ensures { (e : ℕ) → has result e ≡ fit timeline-layout c d e }
+    ensures { (e : ℕ) → has result e ≡ fit timeline_layout c d e }
 {
     if c < 13 && d < 13 {
         TABLE[c as usize].masks[d as usize]
@@ -297,7 +297,7 @@ pub fn composed(c: u8, d: u8) -> u64
 
 /// The axis on which spells have their start and their end.
 pub fn timeline() -> Axis
-    ensures { Draws result 2 (timeline-layout.side 0) }
+    ensures { Draws result 2 (timeline_layout.side 0) }
 {
     TIMELINE
 }

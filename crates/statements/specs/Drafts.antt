@@ -7,23 +7,23 @@ use Rattle.statements.specs.declared.entry.Entry.{Entry}
 use Rattle.statements.specs.declared.statement.Statement.{Statement}
 use Rattle.statements.specs.declared.fault.Fault.{Fault}
 use Rattle.statements.specs.declared.fault.Fault.TheVariants.{Size, Item, Same, Code, Weight, Person, Full, Missing, Struck}
-use Rattle.statements.specs.Faults.{Check, first-fault}
+use Rattle.statements.specs.Faults.{Check, first_fault}
 use Rattle.rules.specs.Properly.{between}
 
 -- A call is accepted where every check passes, and P then holds of its answer; else it is refused by the first check that fails, and U
 -- holds: nothing has changed.
-abbrev pub By-checks : {A : Type 0} → List Check → Result A Fault → (A → Type 0) → Type 0 → Type 0
-By-checks checks (Ok a) P U = (first-fault checks ≡ None) × P a
-By-checks checks (Err f) P U = (first-fault checks ≡ Some f) × U
+abbrev pub ByChecks : {A : Type 0} → List Check → Result A Fault → (A → Type 0) → Type 0 → Type 0
+ByChecks checks (Ok a) P U = (first_fault checks ≡ None) × P a
+ByChecks checks (Err f) P U = (first_fault checks ≡ Some f) × U
 
 -- the number of items and the rows are as they were
 pub record Unchanged (items : ℕ) (rows : List Row) (items' : ℕ) (rows' : List Row) : Type 0 where
-  pub same-items : items' ≡ items
+  pub same_items : items' ≡ items
   pub same_rows : rows' ≡ rows
 
 -- Size: 1 to 12 items; the list is emptied.
-abbrev pub size-checks : ℕ → List Check
-size-checks n = (between 1 12 n, Size) ∷ []
+abbrev pub size_checks : ℕ → List Check
+size_checks n = (between 1 12 n, Size) ∷ []
 
 -- The set of the converses of the codes below b that are in a set.
 abbrev pub converses : (ℕ → ℕ) → ℕ → ℕ → ℕ
@@ -31,8 +31,8 @@ converses conv zero s = 0
 converses conv (suc c) s = cond (has s c && nat_lt (conv c) 64) (bit_or (converses conv c s) (2 ^ conv c)) (converses conv c s)
 
 -- The checks of an entry on a draft of so many items, in their order.
-abbrev pub entry-checks : ℕ → ℕ → Entry → List Check
-entry-checks codes items e =
+abbrev pub entry_checks : ℕ → ℕ → Entry → List Check
+entry_checks codes items e =
     (between 1 items e.first && between 1 items e.second, Item)
     ∷ (not (e.first == e.second), Same)
     ∷ (nat_lt e.set (2 ^ codes), Code)
@@ -41,8 +41,8 @@ entry-checks codes items e =
     ∷ []
 
 -- Enter: those, and then that there is room.
-abbrev pub enter-checks : ℕ → ℕ → List Row → Entry → List Check
-enter-checks codes items rows e = entry-checks codes items e ++ ((nat_lt (length rows) 256, Full) ∷ [])
+abbrev pub enter_checks : ℕ → ℕ → List Row → Entry → List Check
+enter_checks codes items rows e = entry_checks codes items e ++ ((nat_lt (length rows) 256, Full) ∷ [])
 
 -- The row of an entry: given higher item first, the items are exchanged and the set becomes its converses.
 abbrev pub row_of : (ℕ → ℕ) → ℕ → Entry → Row
@@ -60,20 +60,20 @@ row_of conv codes e = record {
 abbrev pub numbered : List Row → ℕ → Row
 numbered rows i = slice_index_or rows (i - 1) no_row
 
-abbrev pub is-there : List Row → ℕ → Bool
-is-there rows i = between 1 (length rows) i
+abbrev pub is_there : List Row → ℕ → Bool
+is_there rows i = between 1 (length rows) i
 
 -- Strike: the statement is there and has not been struck; its mark is set, and no other row is touched.
-abbrev pub strike-checks : List Row → ℕ → List Check
-strike-checks rows i = (is-there rows i, Missing) ∷ (not (numbered rows i).struck, Struck) ∷ []
+abbrev pub strike_checks : List Row → ℕ → List Check
+strike_checks rows i = (is_there rows i, Missing) ∷ (not (numbered rows i).struck, Struck) ∷ []
 
 -- Reweigh: a live statement is given another weight.
-abbrev pub reweigh-checks : List Row → ℕ → ℕ → List Check
-reweigh-checks rows i w = (is-there rows i, Missing) ∷ (not (numbered rows i).struck, Struck) ∷ (between 1 1000 w, Weight) ∷ []
+abbrev pub reweigh_checks : List Row → ℕ → ℕ → List Check
+reweigh_checks rows i w = (is_there rows i, Missing) ∷ (not (numbered rows i).struck, Struck) ∷ (between 1 1000 w, Weight) ∷ []
 
 -- Look: the statement is there.
-abbrev pub look-checks : List Row → ℕ → List Check
-look-checks rows i = (is-there rows i, Missing) ∷ []
+abbrev pub look_checks : List Row → ℕ → List Check
+look_checks rows i = (is_there rows i, Missing) ∷ []
 
 -- The statement says what the row says; its items are counted from 1.
 pub record Says (s : Statement) (r : Row) : Type 0 where

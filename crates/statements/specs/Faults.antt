@@ -22,6 +22,6 @@ abbrev pub Check : Type 0
 Check = Bool × Fault
 
 -- the refusal of the first check that fails
-abbrev pub first-fault : List Check → Option Fault
-first-fault [] = None
-first-fault (c ∷ cs) = cond c.0 (first-fault cs) (Some c.1)
+abbrev pub first_fault : List Check → Option Fault
+first_fault [] = None
+first_fault (c ∷ cs) = cond c.0 (first_fault cs) (Some c.1)

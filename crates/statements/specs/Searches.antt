@@ -5,13 +5,13 @@ use Rattle.statements.specs.declared.fault.Fault.TheVariants.{Steps, Short, Pers
 use Rattle.statements.specs.Faults.{Check}
 
 -- Search: at most 1,000,000 steps.
-abbrev pub search-checks : ℕ → List Check
-search-checks k = (nat_le k 1000000, Steps) ∷ []
+abbrev pub search_checks : ℕ → List Check
+search_checks k = (nat_le k 1000000, Steps) ∷ []
 
 -- Show: the page has a place for each of n items.
-abbrev pub show-checks : ℕ → ℕ → List Check
-show-checks n places = (nat_le n places, Short) ∷ []
+abbrev pub show_checks : ℕ → ℕ → List Check
+show_checks n places = (nat_le n places, Short) ∷ []
 
 -- Charge: the person is 1 to 20.
-abbrev pub charge-checks : ℕ → List Check
-charge-checks p = (between 1 20 p, Person) ∷ []
+abbrev pub charge_checks : ℕ → List Check
+charge_checks p = (between 1 20 p, Person) ∷ []

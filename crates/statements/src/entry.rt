@@ -1,7 +1,7 @@
 // What is asked of a draft.
 ghost use Rattle.std.specs.Prelude.{◌≡◌, ◌≤◌, true};
-ghost use Rattle.rules.specs.Properly.{row-proper};
-ghost use Rattle.statements.specs.Drafts.{By-checks, entry-checks, row_of};
+ghost use Rattle.rules.specs.Properly.{row_proper};
+ghost use Rattle.statements.specs.Drafts.{ByChecks, entry_checks, row_of};
 
 use crate::codes::only_codes;
 use crate::converses::converses;
@@ -25,7 +25,7 @@ impl Entry {
     /// The row of the entry on a draft of so many items: given higher item first, the items are exchanged and the set becomes its
     /// converses. Refused by the first check that fails.
     pub fn row<K: Kind>(&self, items: u8) -> Result<Row, Fault>
-        ensures { By-checks (entry-checks K.Kind.meaning.codes items self.now) result (λ row. (row ≡ row_of K.Kind.meaning.converse K.Kind.meaning.codes self.now) × (row-proper items row ≡ true)) (Unit {0}) }
+        ensures { ByChecks (entry_checks K.Kind.meaning.codes items self.now) result (λ row. (row ≡ row_of K.Kind.meaning.converse K.Kind.meaning.codes self.now) × (row_proper items row ≡ true)) (Unit {0}) }
     {
         self.check::<K>(items as u32)?;
         Ok(self.kept::<K>())
@@ -33,7 +33,7 @@ impl Entry {
 
     // Whether the entry may be appended to a draft of so many items.
     fn check<K: Kind>(&self, items: u32) -> Result<(), Fault>
-        ensures { By-checks (entry-checks K.Kind.meaning.codes items self.now) result (λ _. Unit {0}) (Unit {0}) }
+        ensures { ByChecks (entry_checks K.Kind.meaning.codes items self.now) result (λ _. Unit {0}) (Unit {0}) }
     {
         if self.first < 1 || self.first > items || self.second < 1 || self.second > items {
             return Err(Fault::Item);

@@ -1,6 +1,6 @@
 // A row read as a statement.
 ghost use Rattle.std.specs.Prelude.{◌≡◌, true, false, MatchOption};
-ghost use Rattle.rules.specs.Properly.{row-proper};
+ghost use Rattle.rules.specs.Properly.{row_proper};
 ghost use Rattle.statements.specs.Drafts.{Says};
 
 use crate::statement::Statement;
@@ -9,7 +9,7 @@ use rules::row::Row;
 /// What a row says, as a statement: there is one exactly where the lower item comes first, both items counted from 1 fit a byte, the
 /// weight is 1 to 1,000 and the person is 1 to 20.
 pub fn statement_of(row: &Row) -> Option<Statement>
-    ensures { MatchOption result (row-proper 255 row.now ≡ false) (λ s. (row-proper 255 row.now ≡ true) × Says s row.now) }
+    ensures { MatchOption result (row_proper 255 row.now ≡ false) (λ s. (row_proper 255 row.now ≡ true) × Says s row.now) }
 {
     if row.low < row.high
         && row.high < 255

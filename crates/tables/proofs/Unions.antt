@@ -4,8 +4,8 @@ use lib.Bits.{bit_or, or_shr, or_mod}
 use Rattle.std.proofs.lemmas.Nat.{mod_below}
 use Rattle.std.proofs.lemmas.Bool.{both_ways, cases_lt, cases_order, or_cases, or_left, or_right}
 use Rattle.points.specs.Sets.{has}
-use Rattle.points.proofs.Inserted.{has-add-below, has-add-here, add-below}
-use Rattle.points.proofs.Tabled.{has-beyond}
+use Rattle.points.proofs.Inserted.{has_add_below, has_add_here, add_below}
+use Rattle.points.proofs.Tabled.{has_beyond}
 use Rattle.tables.specs.Relations.{Single}
 
 never : (c : ℕ) → c < 0 → ⊥
@@ -20,51 +20,51 @@ between c n l o = omega arith
 below_next : (c n : ℕ) → c < n → c < n + 1
 below_next c n l = omega arith
 
-has-none : (e : ℕ) → has 0 e ≡ false
-has-none e = has-beyond 0 0 e (omega arith) (omega arith)
+has_none : (e : ℕ) → has 0 e ≡ false
+has_none e = has_beyond 0 0 e (omega arith) (omega arith)
 
 -- the set of one base relation
-pub single-bit : (c : ℕ) → c < 64 → Single c (2 ^ c)
-single-bit c small e = elim (cases_order e c) [
+pub single_bit : (c : ℕ) → c < 64 → Single c (2 ^ c)
+single_bit c small e = elim (cases_order e c) [
   | inl same ↦ (λ _. (same, small), λ _. subst (λ (i : ℕ). has (2 ^ c) i ≡ true) (sym same) here)
-  | inr (inl below) ↦ apart (ap (λ (s : ℕ). has s e) (sym whole) ∙ has-add-below 0 c e below ∙ has-none e) (λ same. omega arith)
-  | inr (inr above) ↦ apart (has-beyond (2 ^ c) (c + 1) e short (omega arith)) (λ same. omega arith)
+  | inr (inl below) ↦ apart (ap (λ (s : ℕ). has s e) (sym whole) ∙ has_add_below 0 c e below ∙ has_none e) (λ same. omega arith)
+  | inr (inr above) ↦ apart (has_beyond (2 ^ c) (c + 1) e short (omega arith)) (λ same. omega arith)
 ]
   where
     whole : 0 + 2 ^ c ≡ 2 ^ c
     whole = omega arith
 
     here : has (2 ^ c) c ≡ true
-    here = ap (λ (s : ℕ). has s c) (sym whole) ∙ has-add-here 0 c (omega (arith, pow_pos c))
+    here = ap (λ (s : ℕ). has s c) (sym whole) ∙ has_add_here 0 c (omega (arith, pow_pos c))
 
     short : 2 ^ c < 2 ^ (c + 1)
-    short = let added : 0 + 2 ^ c < 2 ^ (c + 1) = add-below 0 c (omega (arith, pow_pos c)) in omega arith
+    short = let added : 0 + 2 ^ c < 2 ^ (c + 1) = add_below 0 c (omega (arith, pow_pos c)) in omega arith
 
     apart : has (2 ^ c) e ≡ false → (e ≡ c → ⊥) → Decides (has (2 ^ c) e) ((e ≡ c) × (c < 64))
     apart out differs = (λ p. absurd (both_ways (has (2 ^ c) e) out p), λ p. absurd (differs p.0))
 
 -- one bit of a union
-or-one : (x y : ℕ) → x < 2 → y < 2 → eqb (bit_or x y) 1 ≡ (eqb x 1 || eqb y 1)
-or-one zero zero p q = refl
-or-one zero (suc zero) p q = refl
-or-one zero (suc (suc y)) p q = absurd (above y q)
-or-one (suc zero) zero p q = refl
-or-one (suc zero) (suc zero) p q = refl
-or-one (suc zero) (suc (suc y)) p q = absurd (above y q)
-or-one (suc (suc x)) y p q = absurd (above x p)
+or_one : (x y : ℕ) → x < 2 → y < 2 → eqb (bit_or x y) 1 ≡ (eqb x 1 || eqb y 1)
+or_one zero zero p q = refl
+or_one zero (suc zero) p q = refl
+or_one zero (suc (suc y)) p q = absurd (above y q)
+or_one (suc zero) zero p q = refl
+or_one (suc zero) (suc zero) p q = refl
+or_one (suc zero) (suc (suc y)) p q = absurd (above y q)
+or_one (suc (suc x)) y p q = absurd (above x p)
 
-has-union : (a b e : ℕ) → has (bit_or a b) e ≡ (has a e || has b e)
-has-union a b e =
+has_union : (a b e : ℕ) → has (bit_or a b) e ≡ (has a e || has b e)
+has_union a b e =
     ap (λ (n : ℕ). eqb (n % 2) 1) (or_shr a b e)
     ∙ ap (λ (n : ℕ). eqb n 1) (or_mod (a / 2 ^ e) (b / 2 ^ e) 1)
-    ∙ or-one (a / 2 ^ e % 2) (b / 2 ^ e % 2) (mod_below (a / 2 ^ e) 2 (omega arith)) (mod_below (b / 2 ^ e) 2 (omega arith))
+    ∙ or_one (a / 2 ^ e % 2) (b / 2 ^ e % 2) (mod_below (a / 2 ^ e) 2 (omega arith)) (mod_below (b / 2 ^ e) 2 (omega arith))
 
 -- The set has exactly the codes e that some member c below n gives.
 abbrev pub Union : ℕ → (ℕ → ℕ → Type 0) → ℕ → ℕ → Type 0
 Union members Gives n set = (e : ℕ) → Decides (has set e) ((c : ℕ) × (c < n) × (has members c ≡ true) × Gives c e)
 
-pub union-none : (members : ℕ) (Gives : ℕ → ℕ → Type 0) → Union members Gives 0 0
-union-none members Gives e = (λ p. absurd (both_ways (has 0 e) (has-none e) p), λ some. absurd (never some.0 some.1))
+pub union_none : (members : ℕ) (Gives : ℕ → ℕ → Type 0) → Union members Gives 0 0
+union_none members Gives e = (λ p. absurd (both_ways (has 0 e) (has_none e) p), λ some. absurd (never some.0 some.1))
 
 -- n is a member, and gives the codes of a set
 pub union_more : (members : ℕ) (Gives : ℕ → ℕ → Type 0) (n set more : ℕ) → true ≡ has members n → Union members Gives n set →
@@ -72,22 +72,22 @@ pub union_more : (members : ℕ) (Gives : ℕ → ℕ → Type 0) (n set more : 
 union_more members Gives n set more is old new e = (forth, back)
   where
     forth : has (bit_or set more) e ≡ true → (c : ℕ) × (c < n + 1) × (has members c ≡ true) × Gives c e
-    forth p = elim (or_cases (has set e) (has more e) (sym (has-union set more e) ∙ p)) [
+    forth p = elim (or_cases (has set e) (has more e) (sym (has_union set more e) ∙ p)) [
       | inl q ↦ (let some = (old e).0 q in (some.0, below_next some.0 n some.1, some.2, some.3))
       | inr q ↦ (n, omega arith, sym is, (new e).0 q)
     ]
 
     back : ((c : ℕ) × (c < n + 1) × (has members c ≡ true) × Gives c e) → has (bit_or set more) e ≡ true
     back some = elim (cases_order some.0 n) [
-      | inl same ↦ has-union set more e ∙ or_right (has set e) (has more e) ((new e).1 (subst (λ (c : ℕ). Gives c e) same some.3))
-      | inr (inl below) ↦ has-union set more e ∙ or_left (has set e) (has more e) ((old e).1 (some.0, below, some.2, some.3))
+      | inl same ↦ has_union set more e ∙ or_right (has set e) (has more e) ((new e).1 (subst (λ (c : ℕ). Gives c e) same some.3))
+      | inr (inl below) ↦ has_union set more e ∙ or_left (has set e) (has more e) ((old e).1 (some.0, below, some.2, some.3))
       | inr (inr above) ↦ absurd (between some.0 n some.1 above)
     ]
 
 -- n is no member
-pub union-same : (members : ℕ) (Gives : ℕ → ℕ → Type 0) (n set : ℕ) → false ≡ has members n → Union members Gives n set →
+pub union_same : (members : ℕ) (Gives : ℕ → ℕ → Type 0) (n set : ℕ) → false ≡ has members n → Union members Gives n set →
     Union members Gives (n + 1) set
-union-same members Gives n set out old e = (forth, back)
+union_same members Gives n set out old e = (forth, back)
   where
     forth : has set e ≡ true → (c : ℕ) × (c < n + 1) × (has members c ≡ true) × Gives c e
     forth p = let some = (old e).0 p in (some.0, below_next some.0 n some.1, some.2, some.3)
@@ -103,13 +103,13 @@ union-same members Gives n set out old e = (forth, back)
 member_below : (set c : ℕ) → set < 2 ^ 64 → has set c ≡ true → c < 64
 member_below set c small p = elim (cases_lt c 64) [
   | inl l ↦ l
-  | inr l ↦ absurd (both_ways (has set c) (has-beyond set 64 c small l) p)
+  | inr l ↦ absurd (both_ways (has set c) (has_beyond set 64 c small l) p)
 ]
 
 -- all members of a set of 64 bits
-pub union-all : (members : ℕ) (Gives : ℕ → ℕ → Type 0) (n set : ℕ) → members < 2 ^ 64 → 64 ≤ n → Union members Gives n set →
+pub union_all : (members : ℕ) (Gives : ℕ → ℕ → Type 0) (n set : ℕ) → members < 2 ^ 64 → 64 ≤ n → Union members Gives n set →
     (e : ℕ) → Decides (has set e) ((c : ℕ) × (has members c ≡ true) × Gives c e)
-union-all members Gives n set small done all e = (
+union_all members Gives n set small done all e = (
   λ p. let some = (all e).0 p in (some.0, some.2, some.3),
   λ some. (all e).1 (some.0, within some.0 (member_below members some.0 small some.1), some.1, some.2),
 )

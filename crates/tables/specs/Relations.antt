@@ -20,8 +20,8 @@ abbrev pub Reaches : {V : Type 0} → Meaning V → ℕ → ℕ → ℕ → Type
 Reaches m second c e = (d : ℕ) × (has second d ≡ true) × Fits m c d e
 
 -- The set has exactly the codes that fit with c and a member of the second.
-abbrev pub Compositions-from : {V : Type 0} → Meaning V → ℕ → ℕ → ℕ → Type 0
-Compositions-from m c second set = (e : ℕ) → Decides (has set e) (Reaches m second c e)
+abbrev pub CompositionsFrom : {V : Type 0} → Meaning V → ℕ → ℕ → ℕ → Type 0
+CompositionsFrom m c second set = (e : ℕ) → Decides (has set e) (Reaches m second c e)
 
 -- The set has exactly the codes that fit with a member of the first and a member of the second.
 abbrev pub Compositions : {V : Type 0} → Meaning V → ℕ → ℕ → ℕ → Type 0

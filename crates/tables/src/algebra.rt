@@ -1,5 +1,5 @@
 // Converse and composition of sets of base relations.
-ghost use Rattle.tables.specs.Relations.{Single, Converses, Compositions, Compositions-from};
+ghost use Rattle.tables.specs.Relations.{Single, Converses, Compositions, CompositionsFrom};
 
 use kinds::composition::compose;
 use kinds::kind::Kind;
@@ -27,7 +27,7 @@ pub(crate) fn converses<K: Kind>(set: u64) -> u64
 
 /// The composition of a base relation with a set: the union of its compositions with the members.
 fn compositions_from<K: Kind>(c: u8, second: u64) -> u64
-    ensures { Compositions-from K.Kind.meaning c second result }
+    ensures { CompositionsFrom K.Kind.meaning c second result }
 {
     let mut found = 0;
     for d in 0..64 {

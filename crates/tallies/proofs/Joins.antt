@@ -2,54 +2,54 @@
 use Rattle.std.proofs.Common.{◌≡◌, ℕ, ◌+◌, ◌-◌, ◌<◌, ◌≤◌, Bool, true, false, cond, not, List, [], ◌∷◌, ◌++◌, length, get_or, drop, filter, sym, refl, ap, ◌∙◌, arith}
 use Rattle.std.proofs.lemmas.List.Filters.{length-filter_both}
 use Rattle.std.proofs.lemmas.List.{drop_more}
-use Rattle.tallies.specs.Joins.{Joining, Monoid, joined, most-penalties}
+use Rattle.tallies.specs.Joins.{Joining, Monoid, joined, most_penalties}
 
 -- One turn of a loop that joins a list from its end: the penalty of the member before i, joined with the join from i on.
-pub joined-drop-more : {P C : Type 0} (j : Joining P C) (xs : List P) (i : ℕ) (d : P) (one rest all : C) → 0 < i → i ≤ length xs
+pub joined_drop_more : {P C : Type 0} (j : Joining P C) (xs : List P) (i : ℕ) (d : P) (one rest all : C) → 0 < i → i ≤ length xs
     → one ≡ j.penalty (get_or xs (i - 1) d) → rest ≡ joined j (drop i xs) → all ≡ j.join one rest → all ≡ joined j (drop (i - 1) xs)
-joined-drop-more j xs i d one rest all l h e f g =
+joined_drop_more j xs i d one rest all l h e f g =
     let inside : i - 1 < length xs = omega arith in
     let before : (i - 1) + 1 ≡ i = omega arith in
     rw (drop_more xs (i - 1) d inside, before, g, e, f)
 
 module _ {P C : Type 0} (j : Joining P C) (m : Monoid j) where
   -- A first penalty may be joined before or after.
-  pub first-assoc : (x : P) (ys zs : List P) → 1 + length ys + length zs ≤ most-penalties
+  pub first_assoc : (x : P) (ys zs : List P) → 1 + length ys + length zs ≤ most_penalties
       → j.join (j.join (j.penalty x) (joined j ys)) (joined j zs) ≡ j.join (j.penalty x) (j.join (joined j ys) (joined j zs))
-  first-assoc x ys zs h = simp (m.single x) at (m.assoc (x ∷ []) ys zs (omega arith))
+  first_assoc x ys zs h = simp (m.single x) at (m.assoc (x ∷ []) ys zs (omega arith))
 
   -- A first penalty may be joined behind another join.
-  pub first-exchange : (x : P) (ys zs : List P) → 1 + length ys + length zs ≤ most-penalties
+  pub first_exchange : (x : P) (ys zs : List P) → 1 + length ys + length zs ≤ most_penalties
       → j.join (j.penalty x) (j.join (joined j ys) (joined j zs)) ≡ j.join (joined j ys) (j.join (j.penalty x) (joined j zs))
-  first-exchange x ys zs h =
+  first_exchange x ys zs h =
       let swap : j.join (j.penalty x) (joined j ys) ≡ j.join (joined j ys) (j.penalty x) =
       simp (m.single x) at (m.comm (x ∷ []) ys (omega arith)) in
       let after : j.join (j.join (joined j ys) (j.penalty x)) (joined j zs) ≡ j.join (joined j ys) (j.join (j.penalty x) (joined j zs)) =
       simp (m.single x) at (m.assoc ys (x ∷ []) zs (omega arith)) in
-      sym (first-assoc x ys zs h) ∙ ap (λ (z : C). j.join z (joined j zs)) swap ∙ after
+      sym (first_assoc x ys zs h) ∙ ap (λ (z : C). j.join z (joined j zs)) swap ∙ after
 
   -- The empty cost on the right.
-  pub identity-right : (xs : List P) → length xs ≤ most-penalties → j.join (joined j xs) j.empty ≡ joined j xs
-  identity-right xs h = m.comm xs [] (omega arith) ∙ m.identity xs h
+  pub identity_right : (xs : List P) → length xs ≤ most_penalties → j.join (joined j xs) j.empty ≡ joined j xs
+  identity_right xs h = m.comm xs [] (omega arith) ∙ m.identity xs h
 
   -- The join of two joins is the join of the lists appended.
-  pub append : (xs ys : List P) → length xs + length ys ≤ most-penalties → j.join (joined j xs) (joined j ys) ≡ joined j (xs ++ ys)
+  pub append : (xs ys : List P) → length xs + length ys ≤ most_penalties → j.join (joined j xs) (joined j ys) ≡ joined j (xs ++ ys)
   append [] ys h = m.identity ys (omega arith)
-  append (x ∷ xs) ys h = first-assoc x xs ys (omega arith) ∙ ap (j.join (j.penalty x)) (append xs ys (omega arith))
+  append (x ∷ xs) ys h = first_assoc x xs ys (omega arith) ∙ ap (j.join (j.penalty x)) (append xs ys (omega arith))
 
   -- One more penalty at the end.
-  pub push : (xs : List P) (x : P) → length xs + 1 ≤ most-penalties → j.join (joined j xs) (j.penalty x) ≡ joined j (xs ++ (x ∷ []))
+  pub push : (xs : List P) (x : P) → length xs + 1 ≤ most_penalties → j.join (joined j xs) (j.penalty x) ≡ joined j (xs ++ (x ∷ []))
   push xs x h = ap (j.join (joined j xs)) (sym (m.single x)) ∙ append xs (x ∷ []) (omega arith)
 
   -- A first penalty goes to one part or to the other.
-  first_part : (v : Bool) (x : P) (ys zs : List P) → 1 + length ys + length zs ≤ most-penalties
+  first_part : (v : Bool) (x : P) (ys zs : List P) → 1 + length ys + length zs ≤ most_penalties
       → j.join (j.penalty x) (j.join (joined j ys) (joined j zs))
       ≡ j.join (joined j (cond v (x ∷ ys) ys)) (joined j (cond (not v) (x ∷ zs) zs))
-  first_part true x ys zs h = sym (first-assoc x ys zs h)
-  first_part false x ys zs h = first-exchange x ys zs h
+  first_part true x ys zs h = sym (first_assoc x ys zs h)
+  first_part false x ys zs h = first_exchange x ys zs h
 
   -- What passes a test joined with what fails it is the whole.
-  pub part : (f : P → Bool) (xs : List P) → length xs ≤ most-penalties
+  pub part : (f : P → Bool) (xs : List P) → length xs ≤ most_penalties
       → joined j xs ≡ j.join (joined j (filter f xs)) (joined j (filter (λ x. not (f x)) xs))
   part f [] h = sym (m.identity [] h)
   part f (x ∷ xs) h =

@@ -3,40 +3,40 @@ use Rattle.std.specs.Prelude.{◌≡◌, ℕ, ◌*◌, ◌≤◌, List, [], ◌�
 use Rattle.std.proofs.Common.{arith}
 use Rattle.std.proofs.lemmas.List.Sums.{sum_by-cons}
 use Rattle.std.proofs.lemmas.Bool.{leb-true, leb-false, le-leb, lt-leb}
-use Rattle.tallies.specs.Joins.{Monoid, Ranking, joined, most-penalties}
-use Rattle.tallies.specs.Weights.{adding, capped, weight-of, Weights-add, Weights-count}
+use Rattle.tallies.specs.Joins.{Monoid, Ranking, joined, most_penalties}
+use Rattle.tallies.specs.Weights.{adding, capped, weight_of, WeightsAdd, WeightsCount}
 
 module _ {P : Type 0} (f : P → ℕ) (small : (x : P) → f x ≤ 1000) where
   -- Up to 256 penalties of at most 1,000 each stay far below the cap.
-  pub joined-le : (xs : List P) → length xs ≤ most-penalties → joined (adding f) xs ≤ length xs * 1000
-  joined-le [] h = omega arith
-  joined-le (x ∷ xs) h = let a = small x in let b = joined-le xs (omega arith) in omega arith
+  pub joined_le : (xs : List P) → length xs ≤ most_penalties → joined (adding f) xs ≤ length xs * 1000
+  joined_le [] h = omega arith
+  joined_le (x ∷ xs) h = let a = small x in let b = joined_le xs (omega arith) in omega arith
 
   -- So their join is the plain sum.
-  pub joined-adding : (xs : List P) → length xs ≤ most-penalties → joined (adding f) xs ≡ sum_by f xs
-  joined-adding [] h = refl
-  joined-adding (x ∷ xs) h =
+  pub joined_adding : (xs : List P) → length xs ≤ most_penalties → joined (adding f) xs ≡ sum_by f xs
+  joined_adding [] h = refl
+  joined_adding (x ∷ xs) h =
       let a = small x in
-      let b = joined-le xs (omega arith) in
-      let c = joined-adding xs (omega arith) in
+      let b = joined_le xs (omega arith) in
+      let c = joined_adding xs (omega arith) in
       let d = sum_by-cons f x xs in
       omega arith
 
-  pub monoid-adding : Monoid (adding f)
-  monoid-adding = record {
-    identity = λ xs h. let a = joined-le xs h in omega arith;
+  pub monoid_adding : Monoid (adding f)
+  monoid_adding = record {
+    identity = λ xs h. let a = joined_le xs h in omega arith;
     single = λ x. let a = small x in omega arith;
     assoc = λ xs ys zs h.
-        let a = joined-le xs (omega arith) in
-        let b = joined-le ys (omega arith) in
-        let c = joined-le zs (omega arith) in
+        let a = joined_le xs (omega arith) in
+        let b = joined_le ys (omega arith) in
+        let c = joined_le zs (omega arith) in
         omega arith;
     comm = λ xs ys h. omega arith;
   }
 
   -- Where no penalty is 0, the order of numbers ranks the sums.
-  pub ranking-adding : ((x : P) → 1 ≤ f x) → Ranking (adding f) nat_le
-  ranking-adding some =
+  pub ranking_adding : ((x : P) → 1 ≤ f x) → Ranking (adding f) nat_le
+  ranking_adding some =
       let J : List P → ℕ = joined (adding f) in
       record {
         above = λ x. let a = some x in lt-leb (f x) 0 (omega arith);
@@ -48,8 +48,8 @@ module _ {P : Type 0} (f : P → ℕ) (small : (x : P) → f x ≤ 1000) where
             le-leb (capped (J xs) (J zs)) (capped (J ys) (J zs)) (omega (arith, leb-true (J xs) (J ys) e));
       }
 
-pub weights-add : Weights-add
-weights-add = joined-adding weight-of (λ c. omega arith)
+pub weights_add : WeightsAdd
+weights_add = joined_adding weight_of (λ c. omega arith)
 
-pub weights-count : Weights-count
-weights-count n a b = omega arith
+pub weights_count : WeightsCount
+weights_count n a b = omega arith

@@ -1,10 +1,10 @@
 //! The tally by weight, letter w.
 
 ghost use Rattle.std.specs.Prelude.{◌≡◌, ◌≤◌, length, sum_by, nat_le};
-ghost use Rattle.tallies.specs.Joins.{joined, most-penalties};
-ghost use Rattle.tallies.specs.Weights.{by-weight, weight-of, Weights-add, Weights-count};
+ghost use Rattle.tallies.specs.Joins.{joined, most_penalties};
+ghost use Rattle.tallies.specs.Weights.{by_weight, weight_of, WeightsAdd, WeightsCount};
 ghost use Rattle.std.proofs.Common.{arith};
-ghost use Rattle.tallies.specs.Sums.{monoid-adding, ranking-adding};
+ghost use Rattle.tallies.specs.Sums.{monoid_adding, ranking_adding};
 
 use crate::claim::Claim;
 use crate::cost::joined;
@@ -16,9 +16,9 @@ pub struct ByWeight;
 impl Joins for ByWeight {
     type Cost = u32;
 
-    ghost joining = { by-weight };
+    ghost joining = { by_weight };
 
-    ghost monoid = { monoid-adding weight-of (λ c. omega arith) };
+    ghost monoid = { monoid_adding weight_of (λ c. omega arith) };
 
     fn empty() -> u32 {
         0
@@ -36,7 +36,7 @@ impl Joins for ByWeight {
 impl Tally for ByWeight {
     ghost order = { nat_le };
 
-    ghost ranks = { ranking-adding weight-of (λ c. omega arith) (λ c. omega arith) };
+    ghost ranks = { ranking_adding weight_of (λ c. omega arith) (λ c. omega arith) };
 
     fn at_most(a: u32, b: u32) -> bool {
         a <= b
@@ -45,10 +45,10 @@ impl Tally for ByWeight {
 
 /// The cost of the claims by weight: for up to 256 claims, the plain sum of their weights.
 pub fn total(claims: &[Claim]) -> u32
-    ensures joins { result ≡ joined by-weight claims.now }
-    ensures sums { length claims.now ≤ most-penalties → result ≡ sum_by weight-of claims.now }
-    ensures adds_exactly { Weights-add }
-    ensures counts { Weights-count }
+    ensures joins { result ≡ joined by_weight claims.now }
+    ensures sums { length claims.now ≤ most_penalties → result ≡ sum_by weight_of claims.now }
+    ensures adds_exactly { WeightsAdd }
+    ensures counts { WeightsCount }
 {
     joined::<ByWeight>(claims)
 }

@@ -2,8 +2,8 @@
 
 ghost use Rattle.std.specs.Prelude.{◌≡◌};
 ghost use Rattle.tallies.specs.Groups.{Regroups};
-ghost use Rattle.tallies.specs.Joins.{joined, most-penalties};
-ghost use Rattle.tallies.specs.Shapes.{Listed, Monoid-of-shapes, Ranking-of-shapes};
+ghost use Rattle.tallies.specs.Joins.{joined, most_penalties};
+ghost use Rattle.tallies.specs.Shapes.{Listed, MonoidOfShapes, RankingOfShapes};
 
 use crate::claim::Claim;
 use crate::tally::{Joins, Tally};
@@ -23,9 +23,9 @@ pub fn joined<T: Joins>(claims: &[Claim]) -> T::Cost
 /// to the join of the list of its penalties; such joins form a commutative monoid; and they can be
 /// regrouped by a key.
 pub fn joins_up_to<T: Joins>() -> usize
-    ensures most { result ≡ most-penalties }
+    ensures most { result ≡ most_penalties }
     ensures listed { Listed T.Joins.joining }
-    ensures monoid { Monoid-of-shapes T.Joins.joining }
+    ensures monoid { MonoidOfShapes T.Joins.joining }
     ensures regroups { Regroups T.Joins.joining }
 {
     256
@@ -33,8 +33,8 @@ pub fn joins_up_to<T: Joins>() -> usize
 
 /// How many penalties on each side the laws of comparing hold for, in joins of any shape.
 pub fn ranks_up_to<T: Tally>() -> usize
-    ensures most { result ≡ most-penalties }
-    ensures ranking { Ranking-of-shapes T.Joins.joining T.Tally.order }
+    ensures most { result ≡ most_penalties }
+    ensures ranking { RankingOfShapes T.Joins.joining T.Tally.order }
 {
     joins_up_to::<T>()
 }

@@ -1,9 +1,9 @@
 //! The tally that counts the broken sworn statements first, letter r.
 
 ghost use Rattle.std.specs.Prelude.{◌≡◌, ◌≤◌, length};
-ghost use Rattle.tallies.specs.Joins.{joined, most-penalties};
-ghost use Rattle.tallies.specs.Sworn.{sworn-first, sworn-order, plain-sum, Parts-add};
-ghost use Rattle.tallies.specs.SwornLemmas.{monoid-sworn, ranking-sworn};
+ghost use Rattle.tallies.specs.Joins.{joined, most_penalties};
+ghost use Rattle.tallies.specs.Sworn.{sworn_first, sworn_order, plain_sum, PartsAdd};
+ghost use Rattle.tallies.specs.SwornLemmas.{monoid_sworn, ranking_sworn};
 
 use crate::claim::Claim;
 use crate::cost::joined;
@@ -24,9 +24,9 @@ pub struct SwornFirst;
 impl Joins for SwornFirst {
     type Cost = SwornCost;
 
-    ghost joining = { sworn-first };
+    ghost joining = { sworn_first };
 
-    ghost monoid = { monoid-sworn };
+    ghost monoid = { monoid_sworn };
 
     fn empty() -> SwornCost {
         SwornCost {
@@ -55,9 +55,9 @@ impl Joins for SwornFirst {
 }
 
 impl Tally for SwornFirst {
-    ghost order = { sworn-order };
+    ghost order = { sworn_order };
 
-    ghost ranks = { ranking-sworn };
+    ghost ranks = { ranking_sworn };
 
     fn at_most(a: SwornCost, b: SwornCost) -> bool {
         a.sworn < b.sworn || (a.sworn == b.sworn && a.weight <= b.weight)
@@ -67,9 +67,9 @@ impl Tally for SwornFirst {
 /// The cost of the claims, sworn first: for up to 256 claims, how many are sworn and the plain sum
 /// of the weights of the others.
 pub fn total(claims: &[Claim]) -> SwornCost
-    ensures joins { result ≡ joined sworn-first claims.now }
-    ensures sums { length claims.now ≤ most-penalties → result ≡ plain-sum claims.now }
-    ensures adds_exactly { Parts-add }
+    ensures joins { result ≡ joined sworn_first claims.now }
+    ensures sums { length claims.now ≤ most_penalties → result ≡ plain_sum claims.now }
+    ensures adds_exactly { PartsAdd }
 {
     joined::<SwornFirst>(claims)
 }

@@ -1,5 +1,5 @@
-use Rattle.files.proofs.Sets.{sets-fit}
+use Rattle.files.proofs.Sets.{sets_fit}
 use Rattle.files.proofs.laws.sets_fit.Goals as goal
 
 pub returns : goal.returns
-returns c = sets-fit
+returns c = sets_fit

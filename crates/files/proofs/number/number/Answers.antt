@@ -1,11 +1,11 @@
 use Rattle.std.proofs.Common.{sym, arith, rules}
 use Rattle.std.proofs.lemmas.Bool.Decides.{nat_tests}
 use Rattle.files.specs.Numbers.{is_number}
-use Rattle.files.proofs.Digits.{just-zero}
+use Rattle.files.proofs.Digits.{just_zero}
 use Rattle.files.proofs.number.number.Goals as goal
 
 pub returns-in-48 : goal.returns-in-48
-returns-in-48 c = sym (just-zero c.args.field.now (grind (arith, nat_tests)) (omega arith))
+returns-in-48 c = sym (just_zero c.args.field.now (grind (arith, nat_tests)) (omega arith))
 
 pub returns-in_default : goal.returns-in_default
 unfolding is_number

@@ -1,6 +1,6 @@
 use Rattle.std.proofs.Common.{◌≡◌, ℕ, ◌+◌, Bool, sym, ◌∙◌, subst, arith}
-use Rattle.points.proofs.Inserted.{or-bit}
-use Rattle.kinds.proofs.Composed.{Gathered, gather, pass-over, composed}
+use Rattle.points.proofs.Inserted.{or_bit}
+use Rattle.kinds.proofs.Composed.{Gathered, gather, pass_over, composed}
 use Rattle.kinds.proofs.composition.compose.Goals as goal
 use Rattle.kinds.proofs.composition.compose.Goals.{then-fits, else-fits}
 
@@ -9,10 +9,10 @@ loop-e-preserved g c =
     let f : ℕ → Bool = g.K.Kind.fit c.args.c c.args.d in
     elim c.if-fits.branch [
       | then-fits w ↦ subst (λ (s : ℕ). Gathered f s (c.loop-e.e + 1))
-          (sym (w.set-is ∙ or-bit c.loop-e.set c.loop-e.e c.loop-e.invariant.0 (omega arith)))
+          (sym (w.set-is ∙ or_bit c.loop-e.set c.loop-e.e c.loop-e.invariant.0 (omega arith)))
           (gather f c.loop-e.set c.loop-e.e c.loop-e.invariant (sym c.fits.ensures.test ∙ w.if-fits.true))
       | else-fits w ↦ subst (λ (s : ℕ). Gathered f s (c.loop-e.e + 1)) (sym w.set-is)
-          (pass-over f c.loop-e.set c.loop-e.e c.loop-e.invariant (sym c.fits.ensures.test ∙ w.if-fits.false))
+          (pass_over f c.loop-e.set c.loop-e.e c.loop-e.invariant (sym c.fits.ensures.test ∙ w.if-fits.false))
     ]
 
 pub returns : goal.returns

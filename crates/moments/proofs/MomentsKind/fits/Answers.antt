@@ -1,11 +1,11 @@
 use Rattle.std.proofs.Common.{◌≡◌, ◌∙◌}
 use Rattle.kinds.specs.Layouts.{fit}
 use Rattle.moments.specs.Moments.{moments, line}
-use Rattle.kinds.proofs.Framed.{composes, decides-as}
+use Rattle.kinds.proofs.Framed.{composes, decides_as}
 use Rattle.moments.specs.Timed.{timed}
 use Rattle.moments.proofs.MomentsKind.fits.Goals as goal
 
 pub returns : goal.returns
 returns c =
     let right : c.contains.result ≡ fit line c.args.c c.args.d c.args.e = c.contains.ensures ∙ c.composed.ensures c.args.e in
-    record { test = right; exactly = decides-as c.contains.result (fit line c.args.c c.args.d c.args.e) right (composes moments line timed c.args.c c.args.d c.args.e) }
+    record { test = right; exactly = decides_as c.contains.result (fit line c.args.c c.args.d c.args.e) right (composes moments line timed c.args.c c.args.d c.args.e) }

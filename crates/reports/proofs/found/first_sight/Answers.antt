@@ -1,7 +1,7 @@
 use Rattle.std.proofs.Common.{sym, ap, ◌∙◌, refl}
 use Rattle.std.proofs.lemmas.List.{drop_all}
 use Rattle.reports.specs.Found.{first_sight}
-use Rattle.reports.proofs.Remaining.{no_sight, first-there, first-later}
+use Rattle.reports.proofs.Remaining.{no_sight, first_there, first_later}
 use Rattle.reports.proofs.found.first_sight.Goals as goal
 
 pub loop-answer-init : goal.loop-answer-init
@@ -9,11 +9,11 @@ loop-answer-init g c = refl
 
 pub returns-in-Shown : goal.returns-in-Shown
 returns-in-Shown g c =
-    first-there c.args.answers.now c.loop-answer.answer-index c.answer-item.result c.in-Shown.sight c.loop-answer-test.true c.answer-item.is c.loop-answer.invariant c.in-Shown.is
+    first_there c.args.answers.now c.loop-answer.answer-index c.answer-item.result c.in-Shown.sight c.loop-answer-test.true c.answer-item.is c.loop-answer.invariant c.in-Shown.is
 
 pub loop-answer-preserved : goal.loop-answer-preserved
 loop-answer-preserved g c =
-    first-later c.args.answers.now c.loop-answer.answer-index c.answer-item.result c.loop-answer-test.true c.answer-item.is c.loop-answer.invariant
+    first_later c.args.answers.now c.loop-answer.answer-index c.answer-item.result c.loop-answer-test.true c.answer-item.is c.loop-answer.invariant
     (no_sight c.answer-item.result c.in_default.not-Shown)
 
 pub returns : goal.returns

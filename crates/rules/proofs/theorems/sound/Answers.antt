@@ -1,9 +1,9 @@
 -- The theorems on the search, from the laws of the bounds.
 use Rattle.std.proofs.Common.{rules}
 use Rattle.rules.proofs.Orders.{in_order}
-use Rattle.rules.proofs.Costs.{pairs-join, charges-join}
-use Rattle.rules.proofs.Floors.{bound-below}
-use Rattle.rules.proofs.Soundness.{search-sound}
+use Rattle.rules.proofs.Costs.{pairs_join, charges_join}
+use Rattle.rules.proofs.Floors.{bound_below}
+use Rattle.rules.proofs.Soundness.{search_sound}
 use Rattle.rules.proofs.theorems.sound.Goals as goal
 
 pub returns : goal.returns
@@ -13,10 +13,10 @@ returns g c =
     let monoid = g.met.T.Joins.monoid in
     record {
       persons = search rules;
-      search = search-sound g.K.Kind.meaning kind.lawful g.K.Kind.fit kind.composes g.K.Kind.values kind.realises
+      search = search_sound g.K.Kind.meaning kind.lawful g.K.Kind.fit kind.composes g.K.Kind.values kind.realises
           j monoid g.T.Tally.order g.met.T.Tally.ranks;
-      bound = bound-below g.K.Kind.meaning kind.lawful g.K.Kind.fit j monoid g.T.Tally.order g.met.T.Tally.ranks;
-      pairs = pairs-join j monoid;
-      charges = charges-join j monoid;
+      bound = bound_below g.K.Kind.meaning kind.lawful g.K.Kind.fit j monoid g.T.Tally.order g.met.T.Tally.ranks;
+      pairs = pairs_join j monoid;
+      charges = charges_join j monoid;
       order = in_order;
     }

@@ -2,18 +2,18 @@
 use Rattle.std.proofs.Common.{List, get_or, ap, ◌∙◌}
 use Rattle.std.proofs.lemmas.List.{take_all}
 use Rattle.rules.specs.declared.row.Row.{Row}
-use Rattle.rules.specs.Rows.{claim-of, no_row}
-use Rattle.rules.specs.Costs.{pair-cost}
-use Rattle.search.proofs.Loops.{turn-adds, pair-cost-more}
+use Rattle.rules.specs.Rows.{claim_of, no_row}
+use Rattle.rules.specs.Costs.{pair_cost}
+use Rattle.search.proofs.Loops.{turn_adds, pair_cost_more}
 use Rattle.search.proofs.cost.pair_price.Goals as goal
 
 pub loop-row-preserved : goal.loop-row-preserved
 loop-row-preserved g c =
-    turn-adds g.J.Joins.joining.join (g.J.Joins.joining.penalty (claim-of (get_or c.args.rows.now c.loop-row.row-index no_row))) c.is_broken_at.ensures c.loop-row.invariant
-    (pair-cost-more g.J.Joins.joining g.met.J.Joins.monoid c.args.rows.now c.loop-row.row-index no_row c.requires c.loop-row-test.true c.args.spot c.args.code)
+    turn_adds g.J.Joins.joining.join (g.J.Joins.joining.penalty (claim_of (get_or c.args.rows.now c.loop-row.row-index no_row))) c.is_broken_at.ensures c.loop-row.invariant
+    (pair_cost_more g.J.Joins.joining g.met.J.Joins.monoid c.args.rows.now c.loop-row.row-index no_row c.requires c.loop-row-test.true c.args.spot c.args.code)
     c.added-sum.ensures
 
 pub returns : goal.returns
 returns g c =
     c.loop-row.invariant
-    ∙ ap (λ (z : List Row). pair-cost g.J.Joins.joining z c.args.spot c.args.code) (take_all c.loop-row.row-index c.args.rows.now c.loop-row-test.false)
+    ∙ ap (λ (z : List Row). pair_cost g.J.Joins.joining z c.args.spot c.args.code) (take_all c.loop-row.row-index c.args.rows.now c.loop-row-test.false)

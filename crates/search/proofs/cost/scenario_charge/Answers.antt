@@ -3,15 +3,15 @@ use Rattle.std.proofs.Common.{List, get_or, ap, ◌∙◌}
 use Rattle.std.proofs.lemmas.List.{take_all}
 use Rattle.points.specs.Scenarios.{entry}
 use Rattle.rules.specs.declared.row.Row.{Row}
-use Rattle.rules.specs.Rows.{claim-of, no_row}
+use Rattle.rules.specs.Rows.{claim_of, no_row}
 use Rattle.rules.specs.Costs.{charge}
-use Rattle.search.proofs.Loops.{turn-adds, charge-more}
+use Rattle.search.proofs.Loops.{turn_adds, charge_more}
 use Rattle.search.proofs.cost.scenario_charge.Goals as goal
 
 pub loop-row-preserved : goal.loop-row-preserved
 loop-row-preserved g c =
-    turn-adds g.J.Joins.joining.join (g.J.Joins.joining.penalty (claim-of (get_or c.args.rows.now c.loop-row.row-index no_row))) c.is_charged_in.ensures c.loop-row.invariant
-    (charge-more g.J.Joins.joining g.met.J.Joins.monoid c.args.rows.now c.loop-row.row-index no_row c.requires c.loop-row-test.true (entry c.args.scenario.now) c.args.person)
+    turn_adds g.J.Joins.joining.join (g.J.Joins.joining.penalty (claim_of (get_or c.args.rows.now c.loop-row.row-index no_row))) c.is_charged_in.ensures c.loop-row.invariant
+    (charge_more g.J.Joins.joining g.met.J.Joins.monoid c.args.rows.now c.loop-row.row-index no_row c.requires c.loop-row-test.true (entry c.args.scenario.now) c.args.person)
     c.added-sum.ensures
 
 pub returns : goal.returns

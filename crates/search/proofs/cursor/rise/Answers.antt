@@ -3,8 +3,8 @@ use Rattle.std.proofs.Common.{◌≡◌, ℕ, ◌+◌, ◌-◌, ◌<◌, ◌≤�
 use Rattle.std.proofs.ByRecursion.{All-get_or}
 use Rattle.rules.specs.Orders.{Below, index, past}
 use Rattle.search.specs.Tables.{Blank}
-use Rattle.search.proofs.Blanks.{blank-front, blank-after, blank-set}
-use Rattle.rules.proofs.Cursors.{zeros, below-front, past-none, turn-read, turn-rise, turn-zero, turn-carry, rise-shares}
+use Rattle.search.proofs.Blanks.{blank_front, blank_after, blank_set}
+use Rattle.rules.proofs.Cursors.{zeros, below_front, past_none, turn_read, turn_rise, turn_zero, turn_carry, rise_shares}
 use Rattle.search.proofs.cursor.rise.Goals as goal
 use Rattle.search.proofs.cursor.rise.Goals.{else-i-shared-via-then-i-shared+else-cursor-i, else-i-shared-via-else-i-shared}
 
@@ -12,23 +12,23 @@ pub loop-i-init : goal.loop-i-init
 loop-i-init c =
     let top : c.max-i.result ≡ max c.args.shared c.args.filled = c.max-i.ensures in (
       omega (arith, top, c.requires.within),
-      blank-front c.max-i.result c.args.cursor.now (λ k l. c.requires.blank k (omega (arith, top, l))),
+      blank_front c.max-i.result c.args.cursor.now (λ k l. c.requires.blank k (omega (arith, top, l))),
       λ h. (let e : c.args.shared ≡ c.max-i.result = omega (arith, h, top) in
           ap (λ (z : ℕ). past c.args.codes (length c.args.cursor.now) z (index c.args.codes c.args.cursor.now)) e),
     )
 
 pub overflow_add-cursor : goal.overflow_add-cursor
 overflow_add-cursor c =
-    let r = turn-read c.args.codes c.args.shared c.args.cursor.now c.requires.low c.requires.within.0 c.loop-i.i c.loop-i.cursor
+    let r = turn_read c.args.codes c.args.shared c.args.cursor.now c.requires.low c.requires.within.0 c.loop-i.i c.loop-i.cursor
     c.loop-i-test.true c.loop-i.invariant.0 c.loop-i.invariant.1 in
     let l = All-get_or (λ z. z < c.args.codes) c.args.cursor.now (c.loop-i.i - 1) 0 (omega (arith, c.loop-i.invariant.0, c.loop-i-test.true)) c.requires.low in
     omega (arith, r, l, c.requires.coded)
 
 pub returns-then-cursor-i : goal.returns-then-cursor-i
 returns-then-cursor-i c =
-    let h = turn-rise c.args.codes c.args.shared c.args.cursor.now c.requires.low c.requires.within.0 c.loop-i.i c.loop-i.cursor
+    let h = turn_rise c.args.codes c.args.shared c.args.cursor.now c.requires.low c.requires.within.0 c.loop-i.i c.loop-i.cursor
     c.loop-i-test.true c.loop-i.invariant.0 c.loop-i.invariant.1 (c.loop-i.invariant.2 (omega (arith, c.if-i-shared.true))) c.if-cursor-i.true in
-    let s = rise-shares c.args.cursor.now c.loop-i.cursor (zeros (length c.args.cursor.now - c.loop-i.i)) c.loop-i.i
+    let s = rise_shares c.args.cursor.now c.loop-i.cursor (zeros (length c.args.cursor.now - c.loop-i.i)) c.loop-i.i
     (get_or c.loop-i.cursor (c.loop-i.i - 1) 0 + 1) c.loop-i-test.true c.loop-i.invariant.0 c.loop-i.invariant.1 in
     let z : c.loop-i.i - 1 ≡ (c.loop-i.i - 1) + 1 - 1 = omega arith in
     let up : c.loop-i.i ≡ (c.loop-i.i - 1) + 1 = omega (arith, c.loop-i-test.true) in
@@ -38,16 +38,16 @@ returns-then-cursor-i c =
       low = h.1;
       within = omega (arith, c.if-i-shared.true);
       blank = subst (λ (w : ℕ). Blank w (set c.loop-i.cursor (c.loop-i.i - 1) (get_or c.loop-i.cursor (c.loop-i.i - 1) 0 + 1))) up
-          (blank-set c.loop-i.i (get_or c.loop-i.cursor (c.loop-i.i - 1) 0 + 1) c.loop-i.cursor c.loop-i-test.true
-          (blank-after c.loop-i.i (length c.args.cursor.now - c.loop-i.i) c.args.cursor.now c.loop-i.cursor c.loop-i.invariant.0 c.loop-i.invariant.1));
+          (blank_set c.loop-i.i (get_or c.loop-i.cursor (c.loop-i.i - 1) 0 + 1) c.loop-i.cursor c.loop-i-test.true
+          (blank_after c.loop-i.i (length c.args.cursor.now - c.loop-i.i) c.args.cursor.now c.loop-i.cursor c.loop-i.invariant.0 c.loop-i.invariant.1));
       shares = subst (λ (w : ℕ). take w (set c.loop-i.cursor (c.loop-i.i - 1) (get_or c.loop-i.cursor (c.loop-i.i - 1) 0 + 1)) ≡ take w c.args.cursor.now) z s;
     }
 
 pub loop-i-preserved : goal.loop-i-preserved
 loop-i-preserved c =
-    let zeroed = turn-zero c.args.codes c.args.shared c.args.cursor.now c.requires.low c.requires.within.0 c.loop-i.i c.loop-i.cursor
+    let zeroed = turn_zero c.args.codes c.args.shared c.args.cursor.now c.requires.low c.requires.within.0 c.loop-i.i c.loop-i.cursor
     c.loop-i-test.true c.loop-i.invariant.0 c.loop-i.invariant.1 in
-    let carry = turn-carry c.args.codes c.args.shared c.args.cursor.now c.requires.low c.requires.within.0 c.loop-i.i c.loop-i.cursor
+    let carry = turn_carry c.args.codes c.args.shared c.args.cursor.now c.requires.low c.requires.within.0 c.loop-i.i c.loop-i.cursor
     c.loop-i-test.true c.loop-i.invariant.0 c.loop-i.invariant.1 c.loop-i.invariant.2 in
     let top : c.loop-i.i - 1 < c.args.shared → c.args.codes ≤ get_or c.loop-i.cursor (c.loop-i.i - 1) 0 + 1 =
     elim c.else-i-shared.branch [
@@ -64,11 +64,11 @@ returns c =
       moved = λ f. absurd (omega (arith, f));
       ended = λ _. done
           ∙ ap (λ (z : ℕ). past c.args.codes (length c.args.cursor.now) z (index c.args.codes c.args.cursor.now)) e
-          ∙ past-none c.args.codes c.args.cursor.now c.requires.low;
+          ∙ past_none c.args.codes c.args.cursor.now c.requires.low;
       low = subst (Below c.args.codes) (sym c.loop-i.invariant.1)
-          (below-front c.args.codes c.loop-i.i (length c.args.cursor.now - c.loop-i.i) c.args.cursor.now c.requires.coded.0 c.requires.low);
+          (below_front c.args.codes c.loop-i.i (length c.args.cursor.now - c.loop-i.i) c.args.cursor.now c.requires.coded.0 c.requires.low);
       within = omega arith;
       shares = refl;
       blank = subst (λ (z : ℕ). Blank z c.loop-i.cursor) e
-          (blank-after c.loop-i.i (length c.args.cursor.now - c.loop-i.i) c.args.cursor.now c.loop-i.cursor c.loop-i.invariant.0 c.loop-i.invariant.1);
+          (blank_after c.loop-i.i (length c.args.cursor.now - c.loop-i.i) c.args.cursor.now c.loop-i.cursor c.loop-i.invariant.0 c.loop-i.invariant.1);
     }

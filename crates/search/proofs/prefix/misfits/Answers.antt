@@ -2,7 +2,7 @@
 use Rattle.std.proofs.Common.{◌≡◌, ℕ, ◌+◌, Bool, false, not, get_or, sym, ap, ◌∙◌, add-one, arith}
 use Rattle.std.proofs.lemmas.Bool.{or_from}
 use Rattle.rules.specs.Steps.{some}
-use Rattle.search.proofs.Prefixes.{some-hit}
+use Rattle.search.proofs.Prefixes.{some_hit}
 use Rattle.search.proofs.prefix.misfits.Goals as goal
 
 pub loop-i-preserved : goal.loop-i-preserved
@@ -14,7 +14,7 @@ loop-i-preserved g c =
 pub returns-then-not-fits : goal.returns-then-not-fits
 returns-then-not-fits g c =
     let test : ℕ → Bool = λ i. not (g.K.Kind.fit (get_or c.args.codes.now (c.args.low + i) 0) c.args.code (get_or c.args.codes.now (c.args.high + i) 0)) in
-    sym (some-hit c.args.count test c.loop-i.i c.loop-i-test.true (ap not (sym c.fits.ensures.test ∙ c.if-not-fits.true)))
+    sym (some_hit c.args.count test c.loop-i.i c.loop-i-test.true (ap not (sym c.fits.ensures.test ∙ c.if-not-fits.true)))
 
 pub returns : goal.returns
 returns g c =

@@ -1,8 +1,8 @@
 -- One more code with each turn.
 use Rattle.std.proofs.Common.{◌≡◌, ℕ, ◌+◌, ◌*◌, ◌<◌, ◌≢◌, length, get_or, set, sym, refl, ap, ◌∙◌, subst, arith, below_more}
 use Rattle.std.proofs.lemmas.List.{length-set, get_or-set_same, get_or-set_other}
-use Rattle.rules.specs.Costs.{pair-cost, pair-bound}
-use Rattle.search.proofs.Loops.{pair-bound-more, turn-lesser}
+use Rattle.rules.specs.Costs.{pair_cost, pair_bound}
+use Rattle.search.proofs.Loops.{pair_bound_more, turn_lesser}
 use Rattle.search.proofs.table.price_pair.Goals as goal
 
 pub loop-code-init : goal.loop-code-init
@@ -15,7 +15,7 @@ loop-code-init g c =
       c.pair_price-least.ensures,
       λ code l. (let first : 0 ≡ code = omega (arith, l) in
           let same : c.args.spot * 64 ≡ c.args.spot * 64 + 0 = omega arith in
-          subst (λ (z : ℕ). get_or (set prices at price) (c.args.spot * 64 + z) j.empty ≡ pair-cost j c.args.rows.now c.args.spot z) first
+          subst (λ (z : ℕ). get_or (set prices at price) (c.args.spot * 64 + z) j.empty ≡ pair_cost j c.args.rows.now c.args.spot z) first
           (ap (λ (z : ℕ). get_or (set prices at price) z j.empty) (sym same)
           ∙ get_or-set_same prices at price j.empty (omega (arith, c.requires.long, c.requires.within)) ∙ c.pair_price-least.ensures)),
       λ x l. refl,
@@ -29,8 +29,8 @@ loop-code-preserved g c =
     let at = c.args.spot * 64 + c.loop-code.code in
     let inside : c.args.spot * 64 + c.loop-code.code < length c.loop-code.prices = omega (arith, c.loop-code.invariant.0, c.requires, c.loop-code-test.true) in (
       length-set prices at price ∙ c.loop-code.invariant.0,
-      turn-lesser g.T.Tally.order c.pair_price-price.ensures c.loop-code.invariant.1
-          (pair-bound-more j g.T.Tally.order c.args.rows.now c.loop-code.code c.args.spot c.loop-code.auto.code) c.lesser-least.ensures,
+      turn_lesser g.T.Tally.order c.pair_price-price.ensures c.loop-code.invariant.1
+          (pair_bound_more j g.T.Tally.order c.args.rows.now c.loop-code.code c.args.spot c.loop-code.auto.code) c.lesser-least.ensures,
       below_more _ _
           (λ z l. (let ne : c.args.spot * 64 + z ≢ c.args.spot * 64 + c.loop-code.code = omega (arith, l) in
           get_or-set_other prices at (c.args.spot * 64 + z) price j.empty ne ∙ c.loop-code.invariant.2 z l))
@@ -44,7 +44,7 @@ returns g c =
     let j = g.T.Joins.joining in
     let last : c.loop-code.code ≡ c.args.codes = omega (arith, c.loop-code.auto, c.loop-code-test.false, c.requires) in
     record {
-      is = c.loop-code.invariant.1 ∙ ap (λ (b : ℕ). pair-bound j g.T.Tally.order b c.args.rows.now c.args.spot) last;
+      is = c.loop-code.invariant.1 ∙ ap (λ (b : ℕ). pair_bound j g.T.Tally.order b c.args.rows.now c.args.spot) last;
       long = c.loop-code.invariant.0;
       here = λ z l. c.loop-code.invariant.2 z (omega (arith, l, last));
       later = λ x l. c.loop-code.invariant.3 x l

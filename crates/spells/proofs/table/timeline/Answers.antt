@@ -1,7 +1,7 @@
-use Rattle.points.proofs.Tabled.{axis-right}
-use Rattle.spells.specs.Spells.{timeline as timeline-layout}
-use Rattle.spells.specs.Spelled.{side-beyond}
+use Rattle.points.proofs.Tabled.{axis_right}
+use Rattle.spells.specs.Spells.{timeline as timeline_layout}
+use Rattle.spells.specs.Spelled.{side_beyond}
 use Rattle.spells.proofs.table.timeline.Goals as goal
 
 pub returns : goal.returns
-returns c = axis-right 13 (timeline-layout.side 0) _ tt side-beyond
+returns c = axis_right 13 (timeline_layout.side 0) _ tt side_beyond

@@ -2,9 +2,9 @@
 use Rattle.std.proofs.Common.{sym, subst}
 use Rattle.std.proofs.lemmas.Nat.{one_shl}
 use Rattle.tables.specs.Relations.{Single}
-use Rattle.tables.proofs.Unions.{single-bit}
+use Rattle.tables.proofs.Unions.{single_bit}
 use Rattle.tables.proofs.algebra.single.Goals as goal
 
 pub returns-then-code-lt64 : goal.returns-then-code-lt64
 returns-then-code-lt64 c =
-    subst (Single c.args.code) (sym (one_shl c.args.code 64 c.if-code-lt64.true)) (single-bit c.args.code c.if-code-lt64.true)
+    subst (Single c.args.code) (sym (one_shl c.args.code 64 c.if-code-lt64.true)) (single_bit c.args.code c.if-code-lt64.true)

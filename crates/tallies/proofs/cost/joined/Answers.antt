@@ -3,7 +3,7 @@ use Rattle.std.proofs.Common.{false, length, sym, ap, ◌∙◌, arith}
 use Rattle.std.proofs.lemmas.List.{drop_all}
 use Rattle.tallies.specs.Joins.{joined}
 use Rattle.tallies.specs.declared.claim.Claim.{Claim}
-use Rattle.tallies.proofs.Joins.{joined-drop-more}
+use Rattle.tallies.proofs.Joins.{joined_drop_more}
 use Rattle.tallies.proofs.cost.joined.Goals as goal
 
 abbrev blank : Claim
@@ -16,5 +16,5 @@ loop-i-init g c =
 
 pub loop-i-preserved : goal.loop-i-preserved
 loop-i-preserved g c =
-    joined-drop-more g.T.Joins.joining c.args.claims.now c.loop-i.i blank c.penalty.result c.loop-i.cost c.join-cost.result
+    joined_drop_more g.T.Joins.joining c.args.claims.now c.loop-i.i blank c.penalty.result c.loop-i.cost c.join-cost.result
     (omega arith) (omega arith) c.penalty.ensures c.loop-i.invariant c.join-cost.ensures

@@ -3,7 +3,7 @@ use Rattle.std.proofs.lemmas.Result.{err_from_is_err_and}
 use Rattle.files.specs.Parts.{lines}
 use Rattle.files.specs.Heads.{head_in}
 use Rattle.files.specs.Faults.{placed_at}
-use Rattle.files.proofs.Seeking.{passed, head-answer, head-place, head-rest, is-head, no-head, some-sheet, located-ok, located-err}
+use Rattle.files.proofs.Seeking.{passed, head_answer, place_of_head, head_rest, head_known, no_head, some_sheet, located_ok, located_err}
 use Rattle.files.proofs.reader.Spot.find_head.Goals as goal
 
 pub returns-in_err-head-in_default-HeadLine-clause-answer : goal.returns-in_err-head-in_default-HeadLine-clause-answer
@@ -11,31 +11,31 @@ returns-in_err-head-in_default-HeadLine-clause-answer c =
     let p = err_from_is_err_and c.from_residual.result c.from_residual.ensures.1 in
     let q = c.loop-line.self.place in
     let l = c.in-Some.line.now in
-    let a = head-answer c.args.self.now.place q (lines c.args.self.now.ahead.rest.now) (lines c.loop-line.self.ahead.rest.now) (lines c.next.new.self.rest.now) l
-    c.loop-line.invariant c.in-Some.ensures (is-head l (sym c.in_default-HeadLine.ensures)) in
-    rw (p.1, p.2) (located-err (record { sheet = q.sheet + 1; line = q.line + 1 }) _ (head_in l) (c.in_err-head-in_default-HeadLine.ensures ∙ ap (placed_at _) c.parse_head.ensures.head) ∙ a)
+    let a = head_answer c.args.self.now.place q (lines c.args.self.now.ahead.rest.now) (lines c.loop-line.self.ahead.rest.now) (lines c.next.new.self.rest.now) l
+    c.loop-line.invariant c.in-Some.ensures (head_known l (sym c.in_default-HeadLine.ensures)) in
+    rw (p.1, p.2) (located_err (record { sheet = q.sheet + 1; line = q.line + 1 }) _ (head_in l) (c.in_err-head-in_default-HeadLine.ensures ∙ ap (placed_at _) c.parse_head.ensures.head) ∙ a)
 
 pub returns-in_default-HeadLine-clause-answer : goal.returns-in_default-HeadLine-clause-answer
 returns-in_default-HeadLine-clause-answer c =
     let q = c.loop-line.self.place in
     let l = c.in-Some.line.now in
-    let a = head-answer c.args.self.now.place q (lines c.args.self.now.ahead.rest.now) (lines c.loop-line.self.ahead.rest.now) (lines c.next.new.self.rest.now) l
-    c.loop-line.invariant c.in-Some.ensures (is-head l (sym c.in_default-HeadLine.ensures)) in
-    located-ok (record { sheet = q.sheet + 1; line = q.line + 1 }) _ (head_in l) (c.in_ok-head-in_default-HeadLine.ensures ∙ ap (placed_at _) c.parse_head.ensures.head) ∙ a
+    let a = head_answer c.args.self.now.place q (lines c.args.self.now.ahead.rest.now) (lines c.loop-line.self.ahead.rest.now) (lines c.next.new.self.rest.now) l
+    c.loop-line.invariant c.in-Some.ensures (head_known l (sym c.in_default-HeadLine.ensures)) in
+    located_ok (record { sheet = q.sheet + 1; line = q.line + 1 }) _ (head_in l) (c.in_ok-head-in_default-HeadLine.ensures ∙ ap (placed_at _) c.parse_head.ensures.head) ∙ a
 
 pub returns-in_default-HeadLine-clause-moved : goal.returns-in_default-HeadLine-clause-moved
 returns-in_default-HeadLine-clause-moved c =
-    let h = is-head c.in-Some.line.now (sym c.in_default-HeadLine.ensures) in
+    let h = head_known c.in-Some.line.now (sym c.in_default-HeadLine.ensures) in
     let p = c.args.self.now.place in
     let q = c.loop-line.self.place in
     let ls = lines c.args.self.now.ahead.rest.now in
     let ms = lines c.loop-line.self.ahead.rest.now in
     let ns = lines c.next.new.self.rest.now in
     let l = c.in-Some.line.now in
-    (head-place p q ls ms ns l c.loop-line.invariant c.in-Some.ensures h, head-rest p q ls ms ns l c.loop-line.invariant c.in-Some.ensures h)
+    (place_of_head p q ls ms ns l c.loop-line.invariant c.in-Some.ensures h, head_rest p q ls ms ns l c.loop-line.invariant c.in-Some.ensures h)
 
 pub loop-line-preserved : goal.loop-line-preserved
 loop-line-preserved c =
     let h = c.in-InSheet-StatementLine in
     passed c.args.self.now.place c.loop-line.self.place (lines c.args.self.now.ahead.rest.now) (lines c.loop-line.self.ahead.rest.now) (lines c.next.new.self.rest.now) c.in-Some.line.now
-    c.loop-line.invariant c.in-Some.ensures (no-head c.in-Some.line.now (sym c.class_of.ensures ∙ h.is-1)) (some-sheet c.loop-line.self.place (sym c.state.ensures ∙ h.is-0))
+    c.loop-line.invariant c.in-Some.ensures (no_head c.in-Some.line.now (sym c.class_of.ensures ∙ h.is-1)) (some_sheet c.loop-line.self.place (sym c.state.ensures ∙ h.is-0))

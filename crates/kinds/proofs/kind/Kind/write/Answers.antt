@@ -1,6 +1,6 @@
 use Rattle.std.proofs.Common.{◌≡◌, ℕ, ◌+◌, List, set, sym, ap, ◌∙◌, subst, arith}
 use Rattle.kinds.specs.Pages.{Written}
-use Rattle.kinds.proofs.Paged.{written-more, written-past, realised-on}
+use Rattle.kinds.proofs.Paged.{written_more, written_past, realised_on}
 use Rattle.kinds.proofs.kind.Kind.write.Goals as goal
 use Rattle.kinds.proofs.kind.Kind.write.Goals.{then-i-page, else-i-page}
 
@@ -10,9 +10,9 @@ loop-i-preserved g c =
     elim c.if-i-page.branch [
       | then-i-page w ↦ subst (λ (p : List g.row.Self-Value.Denot). Written (c.loop-i.i + 1) f c.args.page.now p)
           (sym (w.page-is ∙ ap (λ v. set c.loop-i.page c.loop-i.i v) w.value.ensures))
-          (written-more f c.loop-i.i c.args.page.now c.loop-i.page c.loop-i.invariant w.if-i-page.true)
+          (written_more f c.loop-i.i c.args.page.now c.loop-i.page c.loop-i.invariant w.if-i-page.true)
       | else-i-page w ↦ subst (λ (p : List g.row.Self-Value.Denot). Written (c.loop-i.i + 1) f c.args.page.now p) (sym w.page-is)
-          (written-past f c.loop-i.i c.args.page.now c.loop-i.page c.loop-i.invariant w.if-i-page.false)
+          (written_past f c.loop-i.i c.args.page.now c.loop-i.page c.loop-i.invariant w.if-i-page.false)
     ]
 
 pub returns : goal.returns
@@ -24,6 +24,6 @@ returns g c =
     record {
       written = all;
       realised = λ some few long fitting.
-          realised-on f g.Self.Kind.meaning c.args.items c.args.scenario.now c.args.page.now c.loop-i.page all long
+          realised_on f g.Self.Kind.meaning c.args.items c.args.scenario.now c.args.page.now c.loop-i.page all long
           (g.met.Self.Kind.realises c.args.items c.args.scenario.now some few fitting);
     }

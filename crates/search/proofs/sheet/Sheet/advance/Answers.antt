@@ -5,12 +5,12 @@ use Rattle.points.specs.Scenarios.{pairs, entry}
 use Rattle.rules.specs.declared.row.Row.{Row}
 use Rattle.search.specs.declared.sheet.Sheet.{Sheet}
 use Rattle.rules.specs.Costs.{cost}
-use Rattle.search.specs.Closed.{rows_of, incumbent-of, cursor-of, position-of, rules-of}
+use Rattle.search.specs.Closed.{rows_of, incumbent_of, cursor_of, position_of, rules_of}
 use Rattle.rules.specs.Steps.{Rules, step}
 use Rattle.search.specs.Tables.{Tabled, Known}
-use Rattle.search.proofs.Closed.{carried, going-room, done-room, cursor-long}
-use Rattle.search.proofs.Blanks.{blank-end}
-use Rattle.rules.proofs.Advances.{under-way-none, under-way-more, under-way-all, under-way-done}
+use Rattle.search.proofs.Closed.{carried, going_room, done_room, cursor_long}
+use Rattle.search.proofs.Blanks.{blank_end}
+use Rattle.rules.proofs.Advances.{under_way_none, under_way_more, under_way_all, under_way_done}
 use Rattle.search.proofs.sheet.Sheet.advance.Goals as goal
 
 pub fill-requires : goal.fill-requires
@@ -23,12 +23,12 @@ loop-taken-init g c =
       refl,
       refl,
       refl,
-      under-way-none (rules-of self g.K.Kind.fit g.T.Joins.joining g.T.Tally.order) self.items (rows_of self) c.args.steps (position-of self),
+      under_way_none (rules_of self g.K.Kind.fit g.T.Joins.joining g.T.Tally.order) self.items (rows_of self) c.args.steps (position_of self),
       omega arith,
       c.cost-best.ensures,
       record { long = long; costs = λ z l. absurd (omega (arith, l)); stands = λ z l. absurd (omega (arith, l)) },
       omega (arith, c.pairs-filled.ensures),
-      blank-end c.pairs-filled.result (cursor-of self) (omega (arith, c.pairs-filled.ensures, cursor-long c.args.self.now)),
+      blank_end c.pairs-filled.result (cursor_of self) (omega (arith, c.pairs-filled.ensures, cursor_long c.args.self.now)),
     )
 
 pub step-cost-requires : goal.step-cost-requires
@@ -45,10 +45,10 @@ step-cost-requires g c =
         carried (λ (n : ℕ) (v : Vec Row Global) (b : ℕ). c.loop-taken.filled ≤ pairs n) begun self same inv.7,
       );
       blank = inv.8;
-      best = carried (λ (n : ℕ) (v : Vec Row Global) (b : ℕ). c.loop-taken.best ≡ cost j (vec_items v) (entry (incumbent-of c.loop-taken.self))) begun self same inv.5;
+      best = carried (λ (n : ℕ) (v : Vec Row Global) (b : ℕ). c.loop-taken.best ≡ cost j (vec_items v) (entry (incumbent_of c.loop-taken.self))) begun self same inv.5;
       tabled = carried (λ (n : ℕ) (v : Vec Row Global) (b : ℕ). Tabled (record { codes = b; fit = g.K.Kind.fit; joining = j; at_most = g.T.Tally.order }) n (vec_items v) c.fill.new.prices c.fill.new.owed)
           begun self same (c.fill.ensures g.K.Kind.fit);
-      known = carried (λ (n : ℕ) (v : Vec Row Global) (b : ℕ). Known (record { codes = b; fit = g.K.Kind.fit; joining = j; at_most = g.T.Tally.order }) n (vec_items v) c.loop-taken.best (cursor-of c.loop-taken.self) c.loop-taken.from c.loop-taken.spent)
+      known = carried (λ (n : ℕ) (v : Vec Row Global) (b : ℕ). Known (record { codes = b; fit = g.K.Kind.fit; joining = j; at_most = g.T.Tally.order }) n (vec_items v) c.loop-taken.best (cursor_of c.loop-taken.self) c.loop-taken.from c.loop-taken.spent)
           begun self same inv.6;
     }
 
@@ -60,21 +60,21 @@ loop-taken-preserved g c =
     let after : Sheet = c.step-cost.new.self in
     let inv = c.loop-taken.invariant in
     let e = c.step-cost.ensures in
-    let r : Rules g.row.T-Cost.Denot = rules-of c.args.self.now g.K.Kind.fit g.T.Joins.joining g.T.Tally.order in
+    let r : Rules g.row.T-Cost.Denot = rules_of c.args.self.now g.K.Kind.fit g.T.Joins.joining g.T.Tally.order in
     let same : (self.items ≡ begun.items) × (self.rows ≡ begun.rows) × (self.codes ≡ begun.codes) = (inv.0, inv.1, inv.2) in
-    let is : position-of after ≡ step r begun.items (rows_of begun) (position-of self) =
-    carried (λ (n : ℕ) (v : Vec Row Global) (b : ℕ). position-of c.step-cost.new.self ≡ step (record { codes = b; fit = g.K.Kind.fit; joining = j; at_most = g.T.Tally.order }) n (vec_items v) (position-of c.loop-taken.self))
+    let is : position_of after ≡ step r begun.items (rows_of begun) (position_of self) =
+    carried (λ (n : ℕ) (v : Vec Row Global) (b : ℕ). position_of c.step-cost.new.self ≡ step (record { codes = b; fit = g.K.Kind.fit; joining = j; at_most = g.T.Tally.order }) n (vec_items v) (position_of c.loop-taken.self))
     self begun same e.stepped in
-    let room : (position-of self).cursor < begun.codes ^ pairs begun.items =
-    carried (λ (n : ℕ) (v : Vec Row Global) (b : ℕ). (position-of c.loop-taken.self).cursor < b ^ pairs n) self begun same (going-room self c.if-self.true) in (
+    let room : (position_of self).cursor < begun.codes ^ pairs begun.items =
+    carried (λ (n : ℕ) (v : Vec Row Global) (b : ℕ). (position_of c.loop-taken.self).cursor < b ^ pairs n) self begun same (going_room self c.if-self.true) in (
       e.parts.0 ∙ inv.0,
       e.parts.1 ∙ inv.1,
       e.parts.2 ∙ inv.2,
-      under-way-more r begun.items (rows_of begun) c.args.steps c.loop-taken.taken (position-of begun) (position-of self) (position-of after)
+      under_way_more r begun.items (rows_of begun) c.args.steps c.loop-taken.taken (position_of begun) (position_of self) (position_of after)
           inv.3 c.loop-taken-test.true room is,
       carried (λ (n : ℕ) (v : Vec Row Global) (b : ℕ). c.step-cost.result.1 ≤ pairs n) self begun same e.within.0,
-      carried (λ (n : ℕ) (v : Vec Row Global) (b : ℕ). c.step-cost.result.0 ≡ cost j (vec_items v) (entry (incumbent-of c.step-cost.new.self))) self begun same e.best,
-      carried (λ (n : ℕ) (v : Vec Row Global) (b : ℕ). Known (record { codes = b; fit = g.K.Kind.fit; joining = j; at_most = g.T.Tally.order }) n (vec_items v) c.step-cost.result.0 (cursor-of c.step-cost.new.self) c.step-cost.result.1 c.step-cost.new.spent)
+      carried (λ (n : ℕ) (v : Vec Row Global) (b : ℕ). c.step-cost.result.0 ≡ cost j (vec_items v) (entry (incumbent_of c.step-cost.new.self))) self begun same e.best,
+      carried (λ (n : ℕ) (v : Vec Row Global) (b : ℕ). Known (record { codes = b; fit = g.K.Kind.fit; joining = j; at_most = g.T.Tally.order }) n (vec_items v) c.step-cost.result.0 (cursor_of c.step-cost.new.self) c.step-cost.result.1 c.step-cost.new.spent)
           self begun same e.known,
       carried (λ (n : ℕ) (v : Vec Row Global) (b : ℕ). c.step-cost.result.2 ≤ pairs n) self begun same e.within.1,
       e.blank,
@@ -85,10 +85,10 @@ returns-else-self g c =
     let begun : Sheet = c.args.self.now in
     let self : Sheet = c.loop-taken.self in
     let inv = c.loop-taken.invariant in
-    let r : Rules g.row.T-Cost.Denot = rules-of c.args.self.now g.K.Kind.fit g.T.Joins.joining g.T.Tally.order in
-    let over : begun.codes ^ pairs begun.items ≤ (position-of self).cursor =
-    carried (λ (n : ℕ) (v : Vec Row Global) (b : ℕ). b ^ pairs n ≤ (position-of c.loop-taken.self).cursor) self begun (inv.0, inv.1, inv.2) (done-room self c.if-self.false) in
-    let both = under-way-done r begun.items (rows_of begun) c.args.steps c.loop-taken.taken (position-of begun) (position-of self) inv.3 over in
+    let r : Rules g.row.T-Cost.Denot = rules_of c.args.self.now g.K.Kind.fit g.T.Joins.joining g.T.Tally.order in
+    let over : begun.codes ^ pairs begun.items ≤ (position_of self).cursor =
+    carried (λ (n : ℕ) (v : Vec Row Global) (b : ℕ). b ^ pairs n ≤ (position_of c.loop-taken.self).cursor) self begun (inv.0, inv.1, inv.2) (done_room self c.if-self.false) in
+    let both = under_way_done r begun.items (rows_of begun) c.args.steps c.loop-taken.taken (position_of begun) (position_of self) inv.3 over in
     record { advanced = both.0; taken = both.1; parts = (inv.0, inv.1, inv.2) }
 
 pub returns-after-loop-taken : goal.returns-after-loop-taken
@@ -96,6 +96,6 @@ returns-after-loop-taken g c =
     let begun : Sheet = c.args.self.now in
     let self : Sheet = c.loop-taken.self in
     let inv = c.loop-taken.invariant in
-    let r : Rules g.row.T-Cost.Denot = rules-of c.args.self.now g.K.Kind.fit g.T.Joins.joining g.T.Tally.order in
-    let both = under-way-all r begun.items (rows_of begun) c.args.steps c.loop-taken.taken (position-of begun) (position-of self) inv.3 c.loop-taken-test.false in
+    let r : Rules g.row.T-Cost.Denot = rules_of c.args.self.now g.K.Kind.fit g.T.Joins.joining g.T.Tally.order in
+    let both = under_way_all r begun.items (rows_of begun) c.args.steps c.loop-taken.taken (position_of begun) (position_of self) inv.3 c.loop-taken-test.false in
     record { advanced = both.0; taken = both.1; parts = (inv.0, inv.1, inv.2) }

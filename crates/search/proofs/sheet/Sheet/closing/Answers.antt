@@ -3,25 +3,25 @@ use Rattle.std.proofs.Common.{◌≡◌, ℕ, ◌^◌, ◌≤◌, true, cond, Li
 use Rattle.std.proofs.lemmas.List.{take-replicate}
 use Rattle.points.specs.Scenarios.{pairs}
 use Rattle.rules.specs.Orders.{index}
-use Rattle.search.specs.Sheets.{all-below}
+use Rattle.search.specs.Sheets.{all_below}
 use Rattle.rules.specs.Steps.{position}
-use Rattle.search.proofs.Closed.{pairs-few, closes-parts, zeros-below}
+use Rattle.search.proofs.Closed.{pairs_few, closes_parts, zeros_below}
 use Rattle.search.proofs.sheet.Sheet.closing.Goals as goal
 
 pub second_scenario-going-requires : goal.second_scenario-going-requires
 second_scenario-going-requires c =
-    let parts = closes-parts c.args.items c.args.rows c.args.codes (sym c.can_close.ensures ∙ c.if-not-can_close.false) in
+    let parts = closes_parts c.args.items c.args.rows c.args.codes (sym c.can_close.ensures ∙ c.if-not-can_close.false) in
     record {
-      few = omega (arith, pairs-few c.args.items parts.1, c.pairs.ensures);
+      few = omega (arith, pairs_few c.args.items parts.1, c.pairs.ensures);
       coded = parts.2;
     }
 
 pub invariant_of-result : goal.invariant_of-result
 invariant_of-result c =
-    let parts = closes-parts c.args.items c.args.rows c.args.codes (sym c.can_close.ensures ∙ c.if-not-can_close.false) in
-    let zeros = zeros-below c.args.codes (pairs c.args.items) parts.2 (pairs-few c.args.items parts.1) in
-    let marked : all-below c.args.codes (take (pairs c.args.items) c.second_scenario-going.result.0) ≡ true =
-    subst (λ (p : ℕ). all-below c.args.codes (take p c.second_scenario-going.result.0) ≡ true) c.pairs.ensures c.second_scenario-going.ensures.below in
+    let parts = closes_parts c.args.items c.args.rows c.args.codes (sym c.can_close.ensures ∙ c.if-not-can_close.false) in
+    let zeros = zeros_below c.args.codes (pairs c.args.items) parts.2 (pairs_few c.args.items parts.1) in
+    let marked : all_below c.args.codes (take (pairs c.args.items) c.second_scenario-going.result.0) ≡ true =
+    subst (λ (p : ℕ). all_below c.args.codes (take p c.second_scenario-going.result.0) ≡ true) c.pairs.ensures c.second_scenario-going.ensures.below in
     record {
       some = parts.0;
       few = parts.1;
@@ -43,7 +43,7 @@ opens n b cursor number few one =
 pub returns : goal.returns
 returns c =
     let passed = sym c.can_close.ensures ∙ c.if-not-can_close.false in
-    let parts = closes-parts c.args.items c.args.rows c.args.codes passed in
+    let parts = closes_parts c.args.items c.args.rows c.args.codes passed in
     let cursor = c.second_scenario-going.result.0 in
     let going = c.second_scenario-going.result.1 in
     let number : cond c.second_scenario-going.result.1 (index c.args.codes (take (pairs c.args.items) c.second_scenario-going.result.0)) (c.args.codes ^ pairs c.args.items) ≡ 1 =
@@ -52,7 +52,7 @@ returns c =
     record {
       test = sym passed;
       opens = opens c.args.items c.args.codes cursor (cond going (index c.args.codes (take (pairs c.args.items) cursor)) (c.args.codes ^ pairs c.args.items))
-          (pairs-few c.args.items parts.1) number;
+          (pairs_few c.args.items parts.1) number;
       parts = (refl, refl, refl);
       back = tt;
     }

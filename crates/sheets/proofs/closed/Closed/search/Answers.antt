@@ -1,8 +1,8 @@
 -- A search advances the sheet and keeps its search sound.
 use Rattle.std.proofs.Common.{vec_items, ap, rules}
-use Rattle.search.specs.Closed.{rules-of}
+use Rattle.search.specs.Closed.{rules_of}
 use Rattle.sheets.specs.Closed.{Searched}
-use Rattle.sheets.proofs.Searches.{searched-keeps}
+use Rattle.sheets.proofs.Searches.{searched_keeps}
 use Rattle.sheets.proofs.closed.Closed.search.Goals as goal
 
 pub returns : goal.returns
@@ -16,7 +16,7 @@ returns g c =
     let steps = c.args.steps in
     let took = c.search.result in
     let did = c.search.ensures in
-    let searched : Searched (rules-of before fit j order) before after steps took =
+    let searched : Searched (rules_of before fit j order) before after steps took =
     record {
       parts = record { same-items = did.parts.0; same_rows = ap vec_items did.parts.1; same_codes = did.parts.2 };
       count = did.taken;
@@ -24,5 +24,5 @@ returns g c =
     } in
     record {
       answers = (search rules, searched);
-      keeps = searched-keeps g.K.Kind.meaning kind.lawful fit kind.composes j g.met.T.Joins.monoid order g.met.T.Tally.ranks before after steps took searched;
+      keeps = searched_keeps g.K.Kind.meaning kind.lawful fit kind.composes j g.met.T.Joins.monoid order g.met.T.Tally.ranks before after steps took searched;
     }

@@ -2,9 +2,9 @@
 use Rattle.std.proofs.Common.{ℕ, ◌≤◌, List, length, get_or, arith, rules}
 use Rattle.kinds.specs.Meaning.{Fitting, Realises}
 use Rattle.kinds.specs.Pages.{Written}
-use Rattle.search.specs.Closed.{incumbent-of}
+use Rattle.search.specs.Closed.{incumbent_of}
 use Rattle.sheets.specs.declared.closed.Shown.{Shown}
-use Rattle.sheets.proofs.Searches.{same-scenario, shown-settles}
+use Rattle.sheets.proofs.Searches.{same_scenario, shown_settles}
 use Rattle.sheets.proofs.closed.Closed.show.Goals as goal
 
 pub returns : goal.returns
@@ -12,20 +12,20 @@ returns g c =
     let kind = g.K.Kind in
     let s = c.args.self.now.sheet in
     let n = s.items in
-    let a = incumbent-of s in
+    let a = incumbent_of s in
     let old = c.args.page.now in
     let new = c.write.new.page in
     let items = c.items.ensures in
-    let items-2 = c.items-2.ensures in
+    let items_2 = c.items-2.ensures in
     let enough : n ≤ length old = omega arith in
     let written : Written n (kind.values n a) old new =
-    same-scenario (λ (i : ℕ) (b : List ℕ). Written i (kind.values i b) old new) c.items-2.result n c.incumbent.result.now a items-2 c.incumbent.ensures c.write.ensures.written in
+    same_scenario (λ (i : ℕ) (b : List ℕ). Written i (kind.values i b) old new) c.items-2.result n c.incumbent.result.now a items_2 c.incumbent.ensures c.write.ensures.written in
     let realised : 1 ≤ n → n ≤ 12 → n ≤ length old → Fitting kind.meaning n a → (other : g.row.K-Value.Denot) → Realises kind.meaning n a (λ i. get_or new i other) =
-    same-scenario (λ (i : ℕ) (b : List ℕ). 1 ≤ i → i ≤ 12 → i ≤ length old → Fitting kind.meaning i b → (other : g.row.K-Value.Denot) → Realises kind.meaning i b (λ k. get_or new k other))
-    c.items-2.result n c.incumbent.result.now a items-2 c.incumbent.ensures c.write.ensures.realised in
+    same_scenario (λ (i : ℕ) (b : List ℕ). 1 ≤ i → i ≤ 12 → i ≤ length old → Fitting kind.meaning i b → (other : g.row.K-Value.Denot) → Realises kind.meaning i b (λ k. get_or new k other))
+    c.items-2.result n c.incumbent.result.now a items_2 c.incumbent.ensures c.write.ensures.realised in
     let shown : Shown g.row.T-Cost.Denot = record { cost = c.cost.result; floor = c.bound.result; finished = c.finished.result } in
     record {
       answers = (search rules, record { written = written; cost-is = c.cost.ensures; floor-is = c.bound.ensures; finished-is = c.finished.ensures });
-      settles = λ sheet. shown-settles kind.meaning g.met.K.Kind.lawful kind.fit g.T.Joins.joining g.met.T.Joins.monoid g.T.Tally.order g.met.T.Tally.ranks s new shown sheet c.cost.ensures c.bound.ensures c.finished.ensures
+      settles = λ sheet. shown_settles kind.meaning g.met.K.Kind.lawful kind.fit g.T.Joins.joining g.met.T.Joins.monoid g.T.Tally.order g.met.T.Tally.ranks s new shown sheet c.cost.ensures c.bound.ensures c.finished.ensures
           (realised s.some s.few enough sheet.sound.fitting);
     }

@@ -1,6 +1,6 @@
 -- A draft is closed with its own parts, and the search of the closed sheet is sound.
 use Rattle.std.proofs.Common.{◌≡◌, vec_items, ap, ◌∙◌}
-use Rattle.sheets.proofs.Searches.{opening-sheet}
+use Rattle.sheets.proofs.Searches.{opening_sheet}
 use Rattle.sheets.proofs.held.Draft.close.Goals as goal
 
 pub returns : goal.returns
@@ -13,6 +13,6 @@ returns g c =
     record {
       parts = record { same-items = parts.0; same_rows = ap vec_items parts.1; same_codes = coded };
       opens = opens;
-      sound = opening-sheet g.K.Kind.meaning kind.lawful g.K.Kind.fit kind.composes g.T.Joins.joining g.met.T.Joins.monoid
+      sound = opening_sheet g.K.Kind.meaning kind.lawful g.K.Kind.fit kind.composes g.T.Joins.joining g.met.T.Joins.monoid
           g.T.Tally.order g.met.T.Tally.ranks g.K.Kind.values kind.realises c.in-Ok.sheet draft.items parts.0 coded opens;
     }

@@ -1,8 +1,8 @@
 -- Every row of a draft can be read as a statement.
 use Rattle.std.proofs.Common.{◌≤◌, arith}
 use Rattle.std.proofs.lemmas.Bool.{both_ways}
-use Rattle.rules.specs.Properly.{row-proper}
-use Rattle.rules.proofs.Properly.{proper-read, sound-wider}
+use Rattle.rules.specs.Properly.{row_proper}
+use Rattle.rules.proofs.Properly.{proper_read, sound_wider}
 use Rattle.sheets.proofs.held.Draft.look.Goals as goal
 
 -- a row of a draft is proper, so that it can be read as a statement
@@ -11,7 +11,7 @@ unreachable-requires g c =
     let draft = c.args.self.now in
     let row = c.index.result.now in
     let there = c.in_ok-i.ensures.1.1 in
-    let sound = proper-read draft.items draft.rows.items _ row (omega arith) c.index.ensures draft.sound in
+    let sound = proper_read draft.items draft.rows.items _ row (omega arith) c.index.ensures draft.sound in
     let few = draft.few in
     let bytes : draft.items ≤ 255 = omega arith in
-    both_ways (row-proper 255 row) c.in-None.ensures (sound-wider draft.items 255 row bytes sound)
+    both_ways (row_proper 255 row) c.in-None.ensures (sound_wider draft.items 255 row bytes sound)

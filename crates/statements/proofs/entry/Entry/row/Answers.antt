@@ -1,8 +1,8 @@
 -- What is asked of an entry that is kept follows from its checks, and its row is proper.
 use Rattle.std.proofs.Common.{◌≡◌, true, sym, subst}
 use Rattle.rules.specs.declared.row.Row.{Row}
-use Rattle.rules.specs.Properly.{row-proper}
-use Rattle.statements.proofs.Accepted.{acceptable, sound-entry}
+use Rattle.rules.specs.Properly.{row_proper}
+use Rattle.statements.proofs.Accepted.{acceptable, sound_entry}
 use Rattle.statements.proofs.entry.Entry.row.Goals as goal
 
 pub returns : goal.returns
@@ -12,4 +12,4 @@ returns g c =
     let conv = g.K.Kind.meaning.converse in
     let e = c.args.self.now in
     let good = acceptable codes items e c.in_ok-check.ensures.0 in
-    (c.in_ok-check.ensures.0, (c.kept.ensures, subst (λ (r : Row). row-proper items r ≡ true) (sym c.kept.ensures) (sound-entry conv codes items e good)))
+    (c.in_ok-check.ensures.0, (c.kept.ensures, subst (λ (r : Row). row_proper items r ≡ true) (sym c.kept.ensures) (sound_entry conv codes items e good)))
