@@ -6,7 +6,6 @@ ghost use Rattle.points.specs.Marks.{Draws};
 ghost use Rattle.points.specs.Sets.{has};
 ghost use Rattle.kinds.specs.Layouts.{fit};
 ghost use Rattle.moments.specs.Moments.{moment_words, moments, line as line_layout, moment};
-ghost use Rattle.moments.specs.Moments as SpecsMoments;
 ghost use Rattle.kinds.proofs.Framed.{laws};
 ghost use Rattle.moments.specs.Timed.{timed, moments_realise};
 ghost use Rattle.kinds.proofs.Framed;
@@ -70,9 +69,9 @@ impl Kind for Moments {
 
     ghost values = { moment };
 
-    ghost lawful = { laws moments SpecsMoments.line timed };
+    ghost lawful = { laws moments line_layout timed };
 
-    ghost composes = { Framed.composes moments SpecsMoments.line timed };
+    ghost composes = { Framed.composes moments line_layout timed };
 
     ghost realises = { moments_realise };
 

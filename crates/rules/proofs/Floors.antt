@@ -1,5 +1,5 @@
 -- The lower bound of a sheet lies at or below the cost of each assignment.
-use Rattle.std.proofs.Common.{◌≡◌, ℕ, Bool, true, List, subst}
+use Rattle.std.proofs.Common.{◌≡◌, ℕ, Bool, true, subst}
 use Rattle.kinds.specs.Meaning.{Meaning, Laws}
 use Rattle.tallies.specs.Joins.{Joining, Monoid, Ranking}
 use Rattle.tallies.specs.declared.claim.Claim.{Claim}

@@ -1,14 +1,14 @@
 -- What the incumbent of a sound search is: the scenario of an assignment, and of least cost once the search has finished.
-use Rattle.std.proofs.Common.{◌≡◌, ℕ, ◌<◌, Bool, true, List, sym, subst, arith}
+use Rattle.std.proofs.Common.{◌≡◌, ℕ, ◌<◌, ◌≤◌, Bool, true, List, sym, subst, arith}
 use Rattle.std.proofs.lemmas.Bool.{leb-true}
 use Rattle.points.specs.Scenarios.{entry}
-use Rattle.kinds.specs.Meaning.{Meaning, Laws, Realises}
+use Rattle.kinds.specs.Meaning.{Meaning, Laws, Realisation, Realises}
 use Rattle.tallies.specs.Joins.{Joining}
 use Rattle.tallies.specs.declared.claim.Claim.{Claim}
 use Rattle.rules.specs.declared.row.Row.{Row}
 use Rattle.rules.specs.Rows.{Proper}
 use Rattle.rules.specs.Orders.{Before}
-use Rattle.rules.specs.Steps.{Position, best_cost, total, finished}
+use Rattle.rules.specs.Steps.{Rules, Position, best_cost, total, finished}
 use Rattle.rules.specs.Soundness.{Assignment, codes_of, scenario_by, cost_by, Sound, Settled, rules}
 use Rattle.rules.proofs.Scenarios.{scenario_of_entries}
 use Rattle.rules.proofs.Costs.{cost_depends}
@@ -21,19 +21,38 @@ pub finished_least : {V C : Type 0} (m : Meaning V) → Laws m → (fit : ℕ �
 finished_least m laws fit j at_most n rows s sound done x law =
     sound.best x law (omega (arith, index_scenario_by m laws n x law, leb-true (total (rules m fit j at_most) n) s.cursor done))
 
+-- Values that have the scenario of the incumbent of a sound search are an assignment with that scenario, and cost what the incumbent does.
+realised : {V C : Type 0} (m : Meaning V) → Laws m → (r : Rules C) (n : ℕ) (rows : List Row) → Proper n rows
+    → (s : Position) → Sound m r n rows s → (x : ℕ → V) → Realises m n s.incumbent x
+    → Assignment m n x × (scenario_by m n x ≡ s.incumbent) × (cost_by m r.joining rows x ≡ best_cost r rows s)
+realised m laws r n rows proper s sound x real =
+    let codes : (i k : ℕ) → i < k → k < n → m.relation (x i) (x k) ≡ entry s.incumbent i k =
+    λ i k ik kn. sym ((laws.one (x i) (x k) (real.lawful i (omega arith)) (real.lawful k kn)).only (entry s.incumbent i k) (real.related i k ik kn)) in (
+      real.lawful,
+      scenario_of_entries (codes_of m x) n s.incumbent sound.long codes,
+      cost_depends r.joining n rows proper (codes_of m x) (entry s.incumbent) codes,
+    )
+
+-- For 1 to 12 items, the values written for the incumbent are an assignment, their scenario is the incumbent, and their cost is its cost.
+pub incumbent_realised : {V C : Type 0} (m : Meaning V) → Laws m → (values : ℕ → List ℕ → ℕ → V) → Realisation m values
+    → (r : Rules C) (n : ℕ) (rows : List Row) → Proper n rows → 1 ≤ n → n ≤ 12 → (s : Position) → Sound m r n rows s
+    → Assignment m n (values n s.incumbent)
+    × (scenario_by m n (values n s.incumbent) ≡ s.incumbent)
+    × (cost_by m r.joining rows (values n s.incumbent) ≡ best_cost r rows s)
+incumbent_realised m laws values realises r n rows proper some few s sound =
+    realised m laws r n rows proper s sound (values n s.incumbent) (realises n s.incumbent some few sound.fitting)
+
 -- Values that have the scenario of the incumbent of a sound search, with the cost of the incumbent, are settled.
 pub settled : {V C : Type 0} (m : Meaning V) → Laws m → (fit : ℕ → ℕ → ℕ → Bool) (j : Joining Claim C) (at_most : C → C → Bool)
     (n : ℕ) (rows : List Row) → Proper n rows → (s : Position) → Sound m (rules m fit j at_most) n rows s
     → (x : ℕ → V) → Realises m n s.incumbent x
     → Settled m (rules m fit j at_most) n rows s x (best_cost (rules m fit j at_most) rows s) (finished (rules m fit j at_most) n s)
-settled {V = V} {C = C} m laws fit j at_most n rows proper s sound x real =
-    let codes : (i k : ℕ) → i < k → k < n → m.relation (x i) (x k) ≡ entry s.incumbent i k =
-    λ i k ik kn. sym ((laws.one (x i) (x k) (real.lawful i (omega arith)) (real.lawful k kn)).only (entry s.incumbent i k) (real.related i k ik kn)) in
-    let has : scenario_by m n x ≡ s.incumbent = scenario_of_entries (codes_of m x) n s.incumbent sound.long codes in
+settled m laws fit j at_most n rows proper s sound x real =
+    let is = realised m laws (rules m fit j at_most) n rows proper s sound x real in
     record {
-      lawful = real.lawful;
-      exact = sym (cost_depends j n rows proper (codes_of m x) (entry s.incumbent) codes);
+      lawful = is.0;
+      exact = sym is.2;
       so_far = sound.best;
       least = finished_least m laws fit j at_most n rows s sound;
-      first = λ y law before. sound.first y law (subst (λ (a : List ℕ). Before (scenario_by m n y) a) has before);
+      first = λ y law before. sound.first y law (subst (λ (a : List ℕ). Before (scenario_by m n y) a) is.1 before);
     }

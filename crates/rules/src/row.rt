@@ -1,7 +1,7 @@
 // The rows of a sheet.
 ghost use Rattle.std.specs.Prelude.{◌≡◌, Bool, true, false, ◌&&◌, if◌then◌else◌, ◌==◌};
 ghost use Rattle.points.specs.Scenarios.{entry as entry_of};
-ghost use Rattle.rules.specs.Rows.{claim_of, counts, breaks as breaks_of, spot as spot_of_lem};
+ghost use Rattle.rules.specs.Rows.{claim_of, counts, breaks as breaks_of, spot as spot_of};
 ghost use Rattle.rules.specs.Properly.{row_proper};
 
 use points::scenario::{entry, place};
@@ -58,7 +58,7 @@ impl Row {
 
     /// The same of a row on the pair at the place, under a code.
     pub fn is_broken_at(self, spot: usize, code: u8) -> bool
-        ensures { result ≡ (counts self && (spot_of_lem self == spot && breaks_of self code)) }
+        ensures { result ≡ (counts self && (spot_of self == spot && breaks_of self code)) }
     {
         place(self.low, self.high) == spot && self.is_broken(code)
     }

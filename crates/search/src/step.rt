@@ -2,7 +2,7 @@
 ghost use Rattle.std.specs.Prelude.{◌≡◌, ℕ, ◌+◌, ◌<◌, ◌≤◌, Bool, true, false, length};
 ghost use Rattle.points.specs.Scenarios.{pairs as pairs_of, entry as entry_of};
 ghost use Rattle.rules.specs.Costs.{cost as cost_of};
-ghost use Rattle.rules.specs.Steps.{step as step_of_lem, advance as advance_of, taken as TakenOf};
+ghost use Rattle.rules.specs.Steps.{step as step_of, advance as advance_of, taken as taken_of};
 ghost use Rattle.search.specs.Closed.{rows_of, incumbent_of, cursor_of, position_of, rules_of};
 ghost use Rattle.search.specs.Tables.{Tabled, Known, Blank};
 
@@ -31,7 +31,7 @@ impl Sheet {
         requires best { best ≡ cost_of T.Joins.joining (rows_of self.old) (entry_of (incumbent_of self.old)) }
         requires tabled { Tabled (rules_of self.old K.Kind.fit T.Joins.joining T.Tally.order) self.old.items (rows_of self.old) prices.now owed.now }
         requires known { Known (rules_of self.old K.Kind.fit T.Joins.joining T.Tally.order) self.old.items (rows_of self.old) best (cursor_of self.old) from spent.old }
-        ensures stepped { position_of self.new ≡ step_of_lem (rules_of self.old K.Kind.fit T.Joins.joining T.Tally.order) self.old.items (rows_of self.old) (position_of self.old) }
+        ensures stepped { position_of self.new ≡ step_of (rules_of self.old K.Kind.fit T.Joins.joining T.Tally.order) self.old.items (rows_of self.old) (position_of self.old) }
         ensures within { (result.1 ≤ pairs_of self.old.items) × (result.2 ≤ pairs_of self.old.items) }
         ensures blank { Blank result.2 (cursor_of self.new) }
         ensures best { result.0 ≡ cost_of T.Joins.joining (rows_of self.old) (entry_of (incumbent_of self.new)) }
@@ -63,7 +63,7 @@ impl Sheet {
     ) -> u32
         requires { (length prices.old ≡ 4224) × ((length owed.old ≡ 67) × (length spent.old ≡ 67)) }
         ensures advanced { position_of self.new ≡ advance_of (rules_of self.old K.Kind.fit T.Joins.joining T.Tally.order) self.old.items (rows_of self.old) steps (position_of self.old) }
-        ensures taken { result ≡ TakenOf (rules_of self.old K.Kind.fit T.Joins.joining T.Tally.order) self.old.items (rows_of self.old) steps (position_of self.old) }
+        ensures taken { result ≡ taken_of (rules_of self.old K.Kind.fit T.Joins.joining T.Tally.order) self.old.items (rows_of self.old) steps (position_of self.old) }
         ensures parts { (self.new.items ≡ self.old.items) × (self.new.rows ≡ self.old.rows) × (self.new.codes ≡ self.old.codes) }
     {
         self.fill::<T>(prices, owed);
@@ -84,7 +84,7 @@ impl Sheet {
     /// Searches on: up to so many steps, and fewer only if the search finishes. Answers how many steps were taken.
     pub fn search<K: Kind, T: Tally>(&mut self, ledger: &mut Ledger<T::Cost>, steps: u32) -> u32
         ensures advanced { position_of self.new ≡ advance_of (rules_of self.old K.Kind.fit T.Joins.joining T.Tally.order) self.old.items (rows_of self.old) steps (position_of self.old) }
-        ensures taken { result ≡ TakenOf (rules_of self.old K.Kind.fit T.Joins.joining T.Tally.order) self.old.items (rows_of self.old) steps (position_of self.old) }
+        ensures taken { result ≡ taken_of (rules_of self.old K.Kind.fit T.Joins.joining T.Tally.order) self.old.items (rows_of self.old) steps (position_of self.old) }
         ensures parts { (self.new.items ≡ self.old.items) × (self.new.rows ≡ self.old.rows) × (self.new.codes ≡ self.old.codes) }
     {
         self.advance::<K, T>(

@@ -5,7 +5,6 @@ ghost use Rattle.std.specs.Prelude.{◌≡◌};
 ghost use Rattle.kinds.specs.Layouts.{fit};
 ghost use Rattle.spells.specs.Spells.{spells as spell_meaning, timeline as timeline_layout, spell as spell_at, spell_words, spells};
 ghost use Rattle.kinds.proofs.Framed.{laws};
-ghost use Rattle.spells.specs.Spells as SpecsSpells;
 ghost use Rattle.spells.specs.Spelled.{spelled, spells_realise};
 ghost use Rattle.kinds.proofs.Framed;
 ghost use Rattle.kinds.proofs.Worded;
@@ -33,9 +32,9 @@ impl Kind for Spells {
 
     ghost values = { spell_at };
 
-    ghost lawful = { laws spells SpecsSpells.timeline spelled };
+    ghost lawful = { laws spells timeline_layout spelled };
 
-    ghost composes = { Framed.composes spells SpecsSpells.timeline spelled };
+    ghost composes = { Framed.composes spells timeline_layout spelled };
 
     ghost realises = { spells_realise };
 

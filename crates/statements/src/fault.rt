@@ -1,6 +1,6 @@
 // Refusals.
 ghost use Rattle.std.specs.Prelude.{◌≡◌};
-ghost use Rattle.statements.specs.Faults.{number as number_of_lem};
+ghost use Rattle.statements.specs.Faults.{number as number_of};
 
 /// Why a call is refused. A refused call changes nothing.
 #[derive(Clone, Copy, PartialEq, Eq)]
@@ -34,7 +34,7 @@ pub enum Fault {
 impl Fault {
     /// The number of the refusal, 1 to 11; want of memory has 0.
     pub fn number(self) -> u8
-        ensures { result ≡ number_of_lem self }
+        ensures { result ≡ number_of self }
     {
         match self {
             Fault::Size => 1,
