@@ -6,10 +6,10 @@ use Rattle.files.specs.declared.fault.FieldFault.TheVariants.{NotWord}
 use Rattle.files.proofs.words.set_of.Given as the
 
 -- the words that are left give the same answer
-abbrev pub invariant_loop_word : the.invariant-loop-word
-invariant_loop_word g l =
+abbrev pub invariant-loop-word : the.invariant-loop-word
+invariant-loop-word g l =
     let code = code_of g.K.Kind.meaning.codes g.K.Notation.words in
     set_in code l.field ≡ given (all_words code (left l.words)) (with_words code l.set (left l.words)) NotWord
 
-abbrev pub decreases_loop_word : the.decreases-loop-word
-decreases_loop_word g l = length (left l.words)
+abbrev pub decreases-loop-word : the.decreases-loop-word
+decreases-loop-word g l = length (left l.words)

@@ -105,8 +105,8 @@ returns g c fit =
     let self = c.args.self.now in
     let first : c.loop-spot.spot ≡ 0 = omega (arith, c.loop-spot-test.false) in
     record {
-      prices-long = c.loop-spot.invariant.0;
-      owed-long = c.loop-spot.invariant.1;
+      prices_long = c.loop-spot.invariant.0;
+      owed_long = c.loop-spot.invariant.1;
       priced = λ s z lo hi l. c.loop-spot.invariant.2 s z (omega (arith, first)) (omega (arith, hi, c.pairs-count.ensures)) l;
       bounded = subst (λ (p : ℕ). Owed j g.T.Tally.order self.codes (rows_of self) 0 p c.loop-spot.owed) c.pairs-count.ensures
           (λ q lo hi. c.loop-spot.invariant.3 q (omega (arith, first)) hi);

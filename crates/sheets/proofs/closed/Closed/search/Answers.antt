@@ -18,7 +18,7 @@ returns g c =
     let did = c.search.ensures in
     let searched : Searched (rules_of before fit j order) before after steps took =
     record {
-      parts = record { same-items = did.parts.0; same_rows = ap vec_items did.parts.1; same_codes = did.parts.2 };
+      parts = record { same_items = did.parts.0; same_rows = ap vec_items did.parts.1; same_codes = did.parts.2 };
       count = did.taken;
       moved = did.advanced;
     } in

@@ -25,7 +25,7 @@ returns g c =
     c.items-2.result n c.incumbent.result.now a items_2 c.incumbent.ensures c.write.ensures.realised in
     let shown : Shown g.row.T-Cost.Denot = record { cost = c.cost.result; floor = c.bound.result; finished = c.finished.result } in
     record {
-      answers = (search rules, record { written = written; cost-is = c.cost.ensures; floor-is = c.bound.ensures; finished-is = c.finished.ensures });
+      answers = (search rules, record { written = written; cost_is = c.cost.ensures; floor_is = c.bound.ensures; finished_is = c.finished.ensures });
       settles = λ sheet. shown_settles kind.meaning g.met.K.Kind.lawful kind.fit g.T.Joins.joining g.met.T.Joins.monoid g.T.Tally.order g.met.T.Tally.ranks s new shown sheet c.cost.ensures c.bound.ensures c.finished.ensures
           (realised s.some s.few enough sheet.sound.fitting);
     }
