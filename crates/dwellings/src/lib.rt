@@ -149,6 +149,8 @@ impl Kind for Dwellings {
 
     ghost lawful = { laws dwellings compass charted };
 
+    ghost involutive = { Framed.involutive dwellings compass charted };
+
     ghost composes = { Framed.composes dwellings compass charted };
 
     ghost realises = { dwellings_realise };

@@ -8,10 +8,10 @@ use Rattle.points.specs.Scenarios.{entry}
 use Rattle.points.specs.Sets.{has}
 use Rattle.points.specs.Marks.{in_scenario}
 use Rattle.points.proofs.Finite.{both_left, both_right, both_from, implies, implied, true_from, holds_from, upto_at, upto_from}
-use Rattle.points.proofs.Compare.{same_eq, compare_converse, compose_compare}
+use Rattle.points.proofs.Compare.{same_eq, compare_converse, compose_compare, converse_converse}
 use Rattle.points.proofs.Tabled.{has_beyond}
 use Rattle.points.proofs.Marked.{Fitting as FittingMarks, ranks_pair, ranks_own}
-use Rattle.kinds.specs.Meaning.{Meaning, ExactlyOne, Laws, Fits, Fitting, Realises}
+use Rattle.kinds.specs.Meaning.{Meaning, ExactlyOne, Laws, Involutive, Fits, Fitting, Realises}
 use Rattle.kinds.specs.Layouts.{Layout, marks_fit, fit, rank_on}
 
 -- something of each axis and each two marks on it, and the test of it
@@ -74,20 +74,24 @@ pub record Frame {V : Type 0} (m : Meaning V) (l : Layout) : Type 0 where
   pub few : l.codes ≤ 64
 
 module _ {V : Type 0} (m : Meaning V) (l : Layout) (f : Frame m l) where
-  -- two codes that are seen of the same values are the same
-  only_one : (u v : V) (c d : ℕ) → c < l.codes → d < l.codes → Seen l f.number u v c → Seen l f.number u v d → c ≡ d
-  only_one u v c d hc hd sc sd =
+  -- two codes with the same sides are the same
+  only_code : (c d : ℕ) → c < l.codes → d < l.codes → Sides l (λ a s t. l.side a c s t ≡ l.side a d s t) → c ≡ d
+  only_code c d hc hd alike =
       let p : ℕ → ℕ → ℕ → ℕ → ℕ → Bool = λ c d a s t. same (l.side a c s t) (l.side a d s t) in
       eqb→eq c d
       (implied (sides l (p c d)) (eqb c d)
       (upto_at l.codes (λ d. implies (sides l (p c d)) (eqb c d)) (upto_at l.codes (λ c. upto l.codes (λ d. implies (sides l (p c d)) (eqb c d))) f.differ c hc) d hd)
       (sides_from l (p c d) (λ a s t ha hs ht.
-      subst (λ (o : Ordering). T (same (l.side a c s t) o)) (sym (sc a s t ha hs ht) ∙ sd a s t ha hs ht) (same_self (l.side a c s t)))))
+      subst (λ (o : Ordering). T (same (l.side a c s t) o)) (alike a s t ha hs ht) (same_self (l.side a c s t)))))
     where
       same_self : (o : Ordering) → T (same o o)
       same_self Prim.Native.Nat.Ordering.lt = tt
       same_self Prim.Native.Nat.Ordering.eq = tt
       same_self Prim.Native.Nat.Ordering.gt = tt
+
+  -- and so are two that are seen of the same values
+  only_one : (u v : V) (c d : ℕ) → c < l.codes → d < l.codes → Seen l f.number u v c → Seen l f.number u v d → c ≡ d
+  only_one u v c d hc hd sc sd = only_code c d hc hd (λ a s t ha hs ht. sym (sc a s t ha hs ht) ∙ sd a s t ha hs ht)
 
   one : (u v : V) → m.lawful u → m.lawful v → ExactlyOne m u v
   one u v hu hv =
@@ -102,18 +106,34 @@ module _ {V : Type 0} (m : Meaning V) (l : Layout) (f : Frame m l) where
   self u hu = f.holds u u hu hu 0 f.some (λ a s t ha hs ht.
       f.ascends u hu a s t ha hs ht ∙ same_eq (compare s t) (l.side a 0 s t) (sides_at l (λ a s t. same (compare s t) (l.side a 0 s t)) f.selves a s t ha hs ht))
 
+  -- the converse of a code is a code, with the sides turned round
+  turned_code : (c : ℕ) → c < l.codes → (m.converse c < l.codes) × Sides l (λ a s t. turned_round (l.side a c t s) ≡ l.side a (m.converse c) s t)
+  turned_code c hc =
+      let p : ℕ → ℕ → ℕ → Bool = λ a s t. same (turned_round (l.side a c t s)) (l.side a (m.converse c) s t) in
+      let here : T (both (ltb (m.converse c) l.codes) (sides l p)) =
+      upto_at l.codes (λ c. both (ltb (m.converse c) l.codes) (sides l (λ a s t. same (turned_round (l.side a c t s)) (l.side a (m.converse c) s t)))) f.converses c hc in (
+        ltb-true (m.converse c) l.codes (true_from (ltb (m.converse c) l.codes) (both_left (ltb (m.converse c) l.codes) (sides l p) here)),
+        λ a s t ha hs ht. same_eq (turned_round (l.side a c t s)) (l.side a (m.converse c) s t) (sides_at l p (both_right (ltb (m.converse c) l.codes) (sides l p) here) a s t ha hs ht),
+      )
+
   turned : (u v : V) → m.lawful u → m.lawful v → (c : ℕ) → m.holds c u v → m.holds (m.converse c) v u
   turned u v hu hv c h =
       let s = f.seen u v hu hv c h in
-      let p : ℕ → ℕ → ℕ → Bool = λ a s t. same (turned_round (l.side a c t s)) (l.side a (m.converse c) s t) in
-      let here : T (both (ltb (m.converse c) l.codes) (sides l p)) =
-      upto_at l.codes (λ c. both (ltb (m.converse c) l.codes) (sides l (λ a s t. same (turned_round (l.side a c t s)) (l.side a (m.converse c) s t)))) f.converses c s.0 in
-      f.holds v u hv hu (m.converse c)
-      (ltb-true (m.converse c) l.codes (true_from (ltb (m.converse c) l.codes) (both_left (ltb (m.converse c) l.codes) (sides l p) here)))
-      (λ a x y ha hx hy.
-      compare_converse (f.number u a y) (f.number v a x)
-      ∙ ap turned_round (s.1 a y x ha hy hx)
-      ∙ same_eq (turned_round (l.side a c y x)) (l.side a (m.converse c) x y) (sides_at l p (both_right (ltb (m.converse c) l.codes) (sides l p) here) a x y ha hx hy))
+      let turn = turned_code c s.0 in
+      f.holds v u hv hu (m.converse c) turn.0
+      (λ a x y ha hx hy. compare_converse (f.number u a y) (f.number v a x) ∙ ap turned_round (s.1 a y x ha hy hx) ∙ turn.1 a x y ha hx hy)
+
+  pub involutive : Involutive m
+  involutive =
+      let inside : (c : ℕ) → c < m.codes → c < l.codes = λ c h. subst (λ (b : ℕ). c < b) f.same_codes h in
+      record {
+        code = λ c h. subst (λ (b : ℕ). m.converse c < b) (sym f.same_codes) (turned_code c (inside c h)).0;
+        back = λ c h.
+            let once = turned_code c (inside c h) in
+            let twice = turned_code (m.converse c) once.0 in
+            only_code (m.converse (m.converse c)) c twice.0 (inside c h) (λ a s t ha hs ht.
+            sym (twice.1 a s t ha hs ht) ∙ ap turned_round (sym (once.1 a t s ha ht hs)) ∙ sym (converse_converse (l.side a c s t)));
+      }
 
   pub laws : Laws m
   laws = record {

@@ -28,6 +28,11 @@ pub record Laws {V : Type 0} (m : Meaning V) : Type 0 where
   pub self : (u : V) → m.lawful u → m.holds 0 u u
   pub turned : (u v : V) → m.lawful u → m.lawful v → (c : ℕ) → m.holds c u v → m.holds (m.converse c) v u
 
+-- The converse of a code is a code, and the converse of that is the code itself.
+pub record Involutive {V : Type 0} (m : Meaning V) : Type 0 where
+  pub code : (c : ℕ) → c < m.codes → m.converse c < m.codes
+  pub back : (c : ℕ) → c < m.codes → m.converse (m.converse c) ≡ c
+
 -- A triple of base relations fits: lawful values u, v and w exist with c from u to v, d from v to w and e from u to w.
 pub record Fits {V : Type 0} (m : Meaning V) (c d e : ℕ) : Type 0 where
   pub u : V

@@ -1,6 +1,6 @@
 // The trait of a kind of item.
 ghost use Rattle.std.specs.Prelude.{◌≡◌, ℕ, ◌<◌, ◌≤◌, Bool, List, length, Decides, slice_index_or};
-ghost use Rattle.kinds.specs.Meaning.{Meaning, Laws, Fits, Fitting, Realises, Realisation};
+ghost use Rattle.kinds.specs.Meaning.{Meaning, Laws, Involutive, Fits, Fitting, Realises, Realisation};
 ghost use Rattle.kinds.specs.Pages.{Written};
 
 /// A kind of item: the values that items may have, and the base relations between them. A base relation is told by its code.
@@ -58,6 +58,9 @@ pub trait Kind {
 
     /// Exactly one base relation holds; code 0 from a value to itself; the converse the other way.
     ghost lawful: { Laws meaning };
+
+    /// The converse of the converse is the base relation itself.
+    ghost involutive: { Involutive meaning };
 
     /// A triple fits exactly where lawful values have it.
     ghost composes: { (c d e : ℕ) → Decides (fit c d e) (Fits meaning c d e) };

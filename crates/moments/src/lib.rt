@@ -71,6 +71,8 @@ impl Kind for Moments {
 
     ghost lawful = { laws moments line_layout timed };
 
+    ghost involutive = { Framed.involutive moments line_layout timed };
+
     ghost composes = { Framed.composes moments line_layout timed };
 
     ghost realises = { moments_realise };

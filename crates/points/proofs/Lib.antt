@@ -6,3 +6,4 @@ pub mod Placed
 pub mod Marked
 pub mod Tabled
 pub mod Inserted
+pub mod United

@@ -1,11 +1,12 @@
 -- The steps of the code are the steps of the search.
 use Rattle.std.proofs.Common.{◌≡◌, ℕ, zero, suc, ◌+◌, ◌-◌, ◌^◌, ◌<◌, ◌≤◌, Bool, true, false, cond, leb, List, length, sym, refl, ap, ◌∙◌, subst, inl, inr, eq-or-lt_of_le, arith}
-use Rattle.std.proofs.lemmas.Bool.{le-leb, lt-leb, cond-true, cond-false}
+use Rattle.std.proofs.lemmas.Bool.{le-leb, lt-leb, cond-true, cond-false, cases_lt}
 use Rattle.points.specs.Scenarios.{pairs, entry}
 use Rattle.rules.specs.declared.row.Row.{Row}
 use Rattle.rules.specs.Costs.{cost}
 use Rattle.rules.specs.Orders.{Below, index, past}
 use Rattle.rules.specs.Steps.{Rules, Position, position, refuted, first_passing, looked_at, shortest, total, finished, step, advance, taken}
+use Rattle.rules.specs.Soundness.{InParts}
 use Rattle.rules.proofs.Cursors.{digits_index, past_one}
 
 -- The first that passes is k, where none before k passes and k does; or past the range, where none in it passes.
@@ -129,3 +130,33 @@ module _ {C : Type 0} (r : Rules C) (n : ℕ) (rows : List Row) where
       let none : taken r n rows (k - m) s ≡ 0 = off.1 in
       let so_far = u.counts in
       (sym (u.leads ∙ off.0), omega arith)
+
+-- A search in parts is one at once.
+pub in_parts : {C : Type 0} (r : Rules C) → InParts r
+in_parts r n rows zero l s =
+    let z : zero + l ≡ l = omega arith in
+    let t : taken r n rows l s ≡ zero + taken r n rows l s = omega arith in
+    (ap (λ (i : ℕ). advance r n rows i s) z, ap (λ (i : ℕ). taken r n rows i s) z ∙ t)
+in_parts r n rows (suc k) l s =
+    let z : suc k + l ≡ suc (k + l) = omega arith in
+    elim (cases_lt s.cursor (total r n)) [
+      | inl going ↦ (let whole = turn_on r n rows (k + l) s going in
+          let part = turn_on r n rows k s going in
+          let rest = in_parts r n rows k l (step r n rows s) in (
+            ap (λ (i : ℕ). advance r n rows i s) z ∙ whole.0 ∙ rest.0 ∙ ap (advance r n rows l) (sym part.0),
+            ap (λ (i : ℕ). taken r n rows i s) z ∙ whole.1 ∙ ap suc rest.1
+                ∙ suc_more (taken r n rows k (step r n rows s)) (taken r n rows l (advance r n rows k (step r n rows s)))
+                ∙ ap (λ (i : ℕ). i + taken r n rows l (advance r n rows k (step r n rows s))) (sym part.1)
+                ∙ ap (λ (p : Position). taken r n rows (suc k) s + taken r n rows l p) (sym part.0),
+          ))
+      | inr done ↦ (let whole = turn_off r n rows (suc k + l) s done in
+          let part = turn_off r n rows (suc k) s done in
+          let rest = turn_off r n rows l s done in (
+            whole.0 ∙ sym rest.0 ∙ ap (advance r n rows l) (sym part.0),
+            whole.1 ∙ sym (ap (λ (i : ℕ). i + taken r n rows l (advance r n rows (suc k) s)) part.1
+                ∙ ap (λ (p : Position). zero + taken r n rows l p) part.0 ∙ ap (λ (i : ℕ). zero + i) rest.1),
+          ))
+    ]
+  where
+    suc_more : (a b : ℕ) → suc (a + b) ≡ suc a + b
+    suc_more a b = omega arith

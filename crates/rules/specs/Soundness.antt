@@ -7,7 +7,7 @@ use Rattle.tallies.specs.Joins.{Joining}
 use Rattle.tallies.specs.declared.claim.Claim.{Claim}
 use Rattle.rules.specs.declared.row.Row.{Row}
 use Rattle.rules.specs.Rows.{Proper}
-use Rattle.rules.specs.Costs.{of_rows, cost, charge, pair_cost, sheet_bound}
+use Rattle.rules.specs.Costs.{of_rows, cost, charge, pair_cost, pair_bound, sheet_bound}
 use Rattle.rules.specs.Orders.{scenario_of, Below, Before, index}
 use Rattle.rules.specs.Steps.{Rules, Position, best_cost, total, step, opening, advance, taken}
 
@@ -75,6 +75,18 @@ pub record Settled {V C : Type 0} (m : Meaning V) (r : Rules C) (n : ℕ) (rows 
 abbrev pub BoundBelow : {V C : Type 0} → Meaning V → Rules C → Type 0
 BoundBelow {V = V} m r = (n : ℕ) (rows : List Row) → Proper n rows → (y : ℕ → V) → Assignment m n y
     → r.at_most (sheet_bound r.joining r.at_most r.codes n rows) (cost_by m r.joining rows y) ≡ true
+
+-- The lower bound of a pair is the least of its costs: its cost under some code, and at most that under each.
+abbrev pub BoundLeast : {C : Type 0} → Rules C → Type 0
+BoundLeast r = (n : ℕ) (rows : List Row) → Proper n rows → (s : ℕ)
+    → ((c : ℕ) × (c < r.codes) × (pair_bound r.joining r.at_most r.codes rows s ≡ pair_cost r.joining rows s c))
+    × ((c : ℕ) → c < r.codes → r.at_most (pair_bound r.joining r.at_most r.codes rows s) (pair_cost r.joining rows s c) ≡ true)
+
+-- A search of k steps and then of l is one of k + l steps.
+abbrev pub InParts : {C : Type 0} → Rules C → Type 0
+InParts r = (n : ℕ) (rows : List Row) (k l : ℕ) (s : Position)
+    → (advance r n rows (k + l) s ≡ advance r n rows l (advance r n rows k s))
+    × (taken r n rows (k + l) s ≡ taken r n rows k s + taken r n rows l (advance r n rows k s))
 
 -- The costs of the pairs join to the cost of a scenario.
 abbrev pub PairsJoin : {C : Type 0} → Joining Claim C → Type 0

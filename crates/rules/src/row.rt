@@ -1,5 +1,5 @@
 // The rows of a sheet.
-ghost use Rattle.std.specs.Prelude.{◌≡◌, Bool, true, false, ◌&&◌, if◌then◌else◌, ◌==◌};
+ghost use Rattle.std.specs.Prelude.{◌≡◌, ◌&&◌, if◌then◌else◌, ◌==◌};
 ghost use Rattle.points.specs.Scenarios.{entry as entry_of};
 ghost use Rattle.rules.specs.Rows.{claim_of, counts, breaks as breaks_of, spot as spot_of};
 ghost use Rattle.rules.specs.Properly.{row_proper};

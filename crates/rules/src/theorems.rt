@@ -1,17 +1,20 @@
 // The theorems on the search, for any kind and any tally.
 ghost use Rattle.std.specs.Prelude.{◌≡◌, ℕ};
 ghost use Rattle.rules.specs.Orders.{InOrder};
-ghost use Rattle.rules.specs.Soundness.{SearchSound, BoundBelow, PairsJoin, ChargesJoin, rules};
+ghost use Rattle.rules.specs.Soundness.{SearchSound, InParts, BoundBelow, BoundLeast, PairsJoin, ChargesJoin, rules};
 
 use kinds::kind::Kind;
-use tallies::tally::Tally;
+use tallies::tally::{Joins, Tally};
 
 /// How many persons there are whose charges join to the cost of a scenario. So do the costs of its pairs; the numbers of scenarios keep
-/// their dictionary order; and the search is sound: the incumbent is the first best of the scenarios before the cursor. The
-/// lower bound of a sheet is at most the cost of each assignment.
+/// their dictionary order; and the search is sound: the incumbent is the first best of the scenarios before the cursor. It may be
+/// carried out in parts. The lower bound of a pair is the least of its costs, and that of a sheet is at most the cost of each
+/// assignment.
 pub fn sound<K: Kind, T: Tally>() -> u8
     ensures persons { result ≡ 20 }
     ensures search { SearchSound K.Kind.meaning (rules K.Kind.meaning K.Kind.fit T.Joins.joining T.Tally.order) }
+    ensures parts { InParts (rules K.Kind.meaning K.Kind.fit T.Joins.joining T.Tally.order) }
+    ensures least { BoundLeast (rules K.Kind.meaning K.Kind.fit T.Joins.joining T.Tally.order) }
     ensures bound { BoundBelow K.Kind.meaning (rules K.Kind.meaning K.Kind.fit T.Joins.joining T.Tally.order) }
     ensures pairs { PairsJoin T.Joins.joining }
     ensures charges { ChargesJoin T.Joins.joining }
@@ -19,3 +22,10 @@ pub fn sound<K: Kind, T: Tally>() -> u8
 {
     20
 }
+
+/// What holds of all that joins, ranked or not: the costs of the pairs join to the cost of a scenario, and so do the charges of the
+/// persons 1 to 20.
+pub fn charges<J: Joins>()
+    ensures pairs { PairsJoin J.Joins.joining }
+    ensures charges { ChargesJoin J.Joins.joining }
+{}

@@ -1,5 +1,5 @@
 // Shows on a page of their own.
-ghost use Rattle.std.specs.Prelude.{◌≡◌, ℕ, IfOk, vec_len};
+ghost use Rattle.std.specs.Prelude.{◌≡◌, IfOk, [], replicate};
 ghost use Rattle.rules.specs.Soundness.{rules};
 ghost use Rattle.search.specs.Closed.{rows_of, position_of};
 ghost use Rattle.runs.specs.Answers.{Showing};
@@ -10,16 +10,14 @@ use sheets::closed::Closed;
 use std::alloc::{AllocError, Global};
 use tallies::tally::{Joins, Tally};
 
-// A page of so many places.
+// A page of so many places, each with the value of the first of no items.
 fn page_of<K: Kind>(heap: Global, places: u8) -> Result<Vec<K::Value>, AllocError>
-    ensures { IfOk result (λ v. vec_len v ≡ places) }
+    ensures { IfOk result (λ v. v.items ≡ replicate places (K.Kind.values 0 [] 0)) }
 {
     let scenario: [u8; 0] = [];
     let value = K::value(0, &scenario, 0);
     let mut page = Vec::new(heap);
-    for _place in 0..places {
-        page.push(value)?;
-    }
+    page.resize(places as usize, value)?;
     Ok(page)
 }
 

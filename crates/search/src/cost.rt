@@ -1,6 +1,6 @@
 // What the rows of a sheet cost.
 ghost use Rattle.std.specs.Prelude.{◌≡◌, ◌≤◌, length, if◌then◌else◌};
-ghost use Rattle.points.specs.Scenarios.{pairs as pairs_of, entry as entry_of};
+ghost use Rattle.points.specs.Scenarios.{entry as entry_of};
 ghost use Rattle.rules.specs.Costs.{cost as cost_of, charge as charge_of, pair_cost, pair_bound, sheet_bound};
 ghost use Rattle.search.specs.Closed.{rows_of, incumbent_of};
 

@@ -1,5 +1,5 @@
 // The cursor of a search: how it moves past a prefix.
-ghost use Rattle.std.specs.Prelude.{◌≡◌, ℕ, ◌-◌, ◌^◌, ◌<◌, ◌≤◌, length, take};
+ghost use Rattle.std.specs.Prelude.{◌≡◌, ◌-◌, ◌^◌, ◌<◌, ◌≤◌, length, take, drop};
 ghost use Rattle.rules.specs.Orders.{Below, index, past};
 ghost use Rattle.search.specs.Tables.{Blank};
 
@@ -49,6 +49,7 @@ pub(crate) fn pass(
     ensures within { result ≤ shared }
     ensures shares { take (result - 1) (take count cursor.new) ≡ take (result - 1) (take count cursor.old) }
     ensures blank { Blank result (take count cursor.new) }
+    ensures rest { drop count cursor.new ≡ drop count cursor.old }
 {
     rise(&mut cursor[0..count], codes, shared, filled)
 }

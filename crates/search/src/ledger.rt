@@ -1,5 +1,5 @@
 // The tables of a search, with memory taken once.
-ghost use Rattle.std.specs.Prelude.{◌≡◌, IfOk, vec_len};
+ghost use Rattle.std.specs.Prelude.{◌≡◌, IfOk, vec_len, replicate};
 
 use std::alloc::{AllocError, Global};
 
@@ -17,18 +17,20 @@ pub struct Ledger<C> {
 
 // A list of so many copies.
 fn copies<C: Copy>(heap: Global, item: C, count: usize) -> Result<Vec<C>, AllocError>
-    ensures { IfOk result (λ v. vec_len v ≡ count) }
+    ensures { IfOk result (λ v. v.items ≡ replicate count item) }
 {
-    let mut list = Vec::with_capacity(heap, count)?;
-    for _i in 0..count {
-        list.push(item)?;
-    }
+    let mut list = Vec::new(heap);
+    list.resize(count, item)?;
     Ok(list)
 }
 
 impl<C: Copy> Ledger<C> {
-    /// Takes the memory of the tables, or answers that there is none. What they hold at first has no meaning.
-    pub fn new(heap: Global, empty: C) -> Result<Ledger<C>, AllocError> {
+    /// Takes the memory of the tables, filled with one cost, or answers that there is none.
+    pub fn new(heap: Global, empty: C) -> Result<Ledger<C>, AllocError>
+        ensures prices { IfOk result (λ l. l.prices.items ≡ replicate 4224 empty) }
+        ensures owed { IfOk result (λ l. l.owed.items ≡ replicate 67 empty) }
+        ensures spent { IfOk result (λ l. l.spent.items ≡ replicate 67 empty) }
+    {
         let prices = copies(heap, empty, 4224)?;
         let owed = copies(heap, empty, 67)?;
         let spent = copies(heap, empty, 67)?;

@@ -1,6 +1,5 @@
 // The parts of a closed sheet: how it is made from them, how they are read and given back.
-ghost use Rattle.std.specs.Prelude.{◌≡◌, ◌^◌, ◌≤◌, Bool, true, false, ◌&&◌, length, take, is_ok, IfOk, IfErr, if◌then◌else◌, vec_capacity};
-ghost use Rattle.points.specs.Scenarios.{pairs as pairs_of};
+ghost use Rattle.std.specs.Prelude.{◌≡◌, ◌^◌, ◌≤◌, true, false, ◌&&◌, length, take, is_ok, IfOk, IfErr, if◌then◌else◌, vec_capacity};
 ghost use Rattle.rules.specs.Orders.{index};
 ghost use Rattle.rules.specs.Properly.{all_proper, proper};
 ghost use Rattle.search.specs.Sheets.{all_below};

@@ -1,5 +1,5 @@
 // The prefixes of the scenario at the cursor, and which of them are refuted.
-ghost use Rattle.std.specs.Prelude.{◌≡◌, ℕ, ◌+◌, ◌*◌, ◌<◌, ◌≤◌, Bool, true, false, not, length as length_of, slice_index};
+ghost use Rattle.std.specs.Prelude.{◌≡◌, ◌+◌, ◌*◌, ◌<◌, ◌≤◌, true, false, not, length as length_of, slice_index};
 ghost use Rattle.points.specs.Scenarios.{pairs as pairs_of, place as place_of};
 ghost use Rattle.rules.specs.Steps.{some, unfit, refuted, first_passing};
 ghost use Rattle.search.specs.Closed.{rows_of, cursor_of, rules_of};

@@ -1,5 +1,5 @@
 // The steps of a search.
-ghost use Rattle.std.specs.Prelude.{◌≡◌, ℕ, ◌+◌, ◌<◌, ◌≤◌, Bool, true, false, length};
+ghost use Rattle.std.specs.Prelude.{◌≡◌, ◌+◌, ◌<◌, ◌≤◌, true, length};
 ghost use Rattle.points.specs.Scenarios.{pairs as pairs_of, entry as entry_of};
 ghost use Rattle.rules.specs.Costs.{cost as cost_of};
 ghost use Rattle.rules.specs.Steps.{step as step_of, advance as advance_of, taken as taken_of};

@@ -1,9 +1,8 @@
 // The costs and bounds that a search looks up.
 ghost use Rattle.std.specs.Prelude.{◌≡◌, ℕ, ◌+◌, ◌*◌, ◌<◌, ◌≤◌, Bool, length, slice_index_or};
-ghost use Rattle.points.specs.Scenarios.{pairs as pairs_of};
 ghost use Rattle.rules.specs.Costs.{pair_cost, pair_bound};
 ghost use Rattle.search.specs.Closed.{rows_of, rules_of};
-ghost use Rattle.search.specs.Tables.{Priced, Owed, Tabled};
+ghost use Rattle.search.specs.Tables.{Tabled};
 
 use crate::cost::{lesser, pair_price};
 use crate::sheet::Sheet;

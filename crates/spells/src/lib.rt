@@ -34,6 +34,8 @@ impl Kind for Spells {
 
     ghost lawful = { laws spells timeline_layout spelled };
 
+    ghost involutive = { Framed.involutive spells timeline_layout spelled };
+
     ghost composes = { Framed.composes spells timeline_layout spelled };
 
     ghost realises = { spells_realise };

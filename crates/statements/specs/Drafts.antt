@@ -1,8 +1,10 @@
 -- What the calls of a draft answer and leave, over its number of items and its list of rows.
 use Rattle.std.specs.Prelude.{◌≡◌, ℕ, zero, suc, ◌+◌, ◌-◌, ◌^◌, Bool, false, cond, not, ◌&&◌, List, [], ◌∷◌, ◌++◌, length, Some, None, Ok, Err, Result, ◌==◌, bit_or, nat_lt, slice_index_or}
 use Rattle.points.specs.Sets.{has}
+use Rattle.kinds.specs.Meaning.{Meaning}
 use Rattle.rules.specs.declared.row.Row.{Row}
 use Rattle.rules.specs.Rows.{no_row}
+use Rattle.rules.specs.Soundness.{Assignment}
 use Rattle.statements.specs.declared.entry.Entry.{Entry}
 use Rattle.statements.specs.declared.statement.Statement.{Statement}
 use Rattle.statements.specs.declared.fault.Fault.{Fault}
@@ -55,6 +57,12 @@ row_of conv codes e = record {
   sworn = e.sworn;
   struck = false;
 }
+
+-- A row says of lawful values what its entry says: it allows the base relation from the lower of its items to the higher exactly where
+-- the entry allows that from its first item to its second.
+abbrev pub Means : {V : Type 0} → Meaning V → ℕ → Entry → Row → Type 0
+Means {V = V} m items e row = (x : ℕ → V) → Assignment m items x
+    → has row.set (m.relation (x row.low) (x row.high)) ≡ has e.set (m.relation (x (e.first - 1)) (x (e.second - 1)))
 
 -- the row of the statement with a number, from 1
 abbrev pub numbered : List Row → ℕ → Row

@@ -1,7 +1,7 @@
 // What is asked of a draft.
-ghost use Rattle.std.specs.Prelude.{◌≡◌, ◌≤◌, true};
+ghost use Rattle.std.specs.Prelude.{◌≡◌, ◌≤◌, true, IfOk};
 ghost use Rattle.rules.specs.Properly.{row_proper};
-ghost use Rattle.statements.specs.Drafts.{ByChecks, entry_checks, row_of};
+ghost use Rattle.statements.specs.Drafts.{ByChecks, entry_checks, row_of, Means};
 
 use crate::codes::only_codes;
 use crate::converses::converses;
@@ -23,9 +23,10 @@ pub struct Entry {
 
 impl Entry {
     /// The row of the entry on a draft of so many items: given higher item first, the items are exchanged and the set becomes its
-    /// converses. Refused by the first check that fails.
+    /// converses, so that the row says of values what the entry says. Refused by the first check that fails.
     pub fn row<K: Kind>(&self, items: u8) -> Result<Row, Fault>
-        ensures { ByChecks (entry_checks K.Kind.meaning.codes items self.now) result (λ row. (row ≡ row_of K.Kind.meaning.converse K.Kind.meaning.codes self.now) × (row_proper items row ≡ true)) (Unit {0}) }
+        ensures means { IfOk result (Means K.Kind.meaning items self.now) }
+        ensures row { ByChecks (entry_checks K.Kind.meaning.codes items self.now) result (λ row. (row ≡ row_of K.Kind.meaning.converse K.Kind.meaning.codes self.now) × (row_proper items row ≡ true)) (Unit {0}) }
     {
         self.check::<K>(items as u32)?;
         Ok(self.kept::<K>())

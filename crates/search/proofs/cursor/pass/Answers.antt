@@ -1,6 +1,6 @@
 -- The first codes of the array, as the part has them.
 use Rattle.std.proofs.Common.{◌≡◌, ℕ, ◌-◌, ◌^◌, List, ◌++◌, length, take, drop, sym, ap, ◌∙◌, subst, arith}
-use Rattle.std.proofs.lemmas.List.{length-take-le, length-append, length-drop, take_at}
+use Rattle.std.proofs.lemmas.List.{length-take-le, length-append, length-drop, take_at, drop_at}
 use Rattle.rules.specs.Orders.{Below, index, past}
 use Rattle.search.specs.Tables.{Blank}
 use Rattle.search.proofs.cursor.pass.Goals as goal
@@ -45,5 +45,6 @@ returns c =
       );
       within = c.rise.ensures.within;
       blank = subst (Blank c.rise.result) (sym front) c.rise.ensures.blank;
+      rest = drop_at out rest count long ∙ ap (λ (k : ℕ). drop k cursor) same;
       shares = ap (take (c.rise.result - 1)) front ∙ c.rise.ensures.shares ∙ ap (take (c.rise.result - 1)) part;
     }

@@ -2,7 +2,9 @@
 use Rattle.std.proofs.Common.{◌≡◌, true, sym, subst}
 use Rattle.rules.specs.declared.row.Row.{Row}
 use Rattle.rules.specs.Properly.{row_proper}
+use Rattle.statements.specs.Drafts.{Means}
 use Rattle.statements.proofs.Accepted.{acceptable, sound_entry}
+use Rattle.statements.proofs.Meant.{means}
 use Rattle.statements.proofs.entry.Entry.row.Goals as goal
 
 pub returns : goal.returns
@@ -12,4 +14,7 @@ returns g c =
     let conv = g.K.Kind.meaning.converse in
     let e = c.args.self.now in
     let good = acceptable codes items e c.in_ok-check.ensures.0 in
-    (c.in_ok-check.ensures.0, (c.kept.ensures, subst (λ (r : Row). row_proper items r ≡ true) (sym c.kept.ensures) (sound_entry conv codes items e good)))
+    record {
+      means = subst (Means g.K.Kind.meaning items e) (sym c.kept.ensures) (means g.K.Kind.meaning g.met.K.Kind.lawful g.met.K.Kind.involutive items e good);
+      row = (c.in_ok-check.ensures.0, (c.kept.ensures, subst (λ (r : Row). row_proper items r ≡ true) (sym c.kept.ensures) (sound_entry conv codes items e good)));
+    }
