@@ -14,13 +14,12 @@ use kinds::notation::Notation;
 use moments::Moments;
 use points::set::contains;
 use published::{
-    Direction, Letter, Row, Turned, all_directions, compositions_of_points,
-    converses_of_directions, converses_of_intervals, converses_of_points, letters_of_directions,
-    letters_of_intervals, letters_of_points,
+    DIRECTION_CONVERSES, DIRECTION_LETTERS, DIRECTIONS, Direction, Entries, INTERVAL_CONVERSES,
+    INTERVAL_LETTERS, Letter, POINT_COMPOSITIONS, POINT_CONVERSES, POINT_LETTERS, Turned,
 };
 use spells::Spells;
 use std::io;
-use transitivity::{ALLEN_IDENTITY, compositions_of_allen, letters_of_allen};
+use transitivity::{ALLEN_COMPOSITIONS, ALLEN_IDENTITY, ALLEN_LETTERS};
 
 /// How many entries or instances were tried, and how many of them stand.
 #[derive(Clone, Copy)]
@@ -205,8 +204,8 @@ fn hold_row<K: Kind + Notation>(
     rt: HostRuntime,
     score: Score,
     letters: &[Letter],
-    rows: &[Row],
-    row: &Row,
+    rows: &[Entries],
+    row: &Entries,
 ) -> anyhow::Result<Score> {
     let mut score = score;
     for (column, entry) in rows.iter().zip(row.entries) {
@@ -232,7 +231,7 @@ fn hold_row<K: Kind + Notation>(
 fn hold_compositions<K: Kind + Notation>(
     rt: HostRuntime,
     letters: &[Letter],
-    rows: &[Row],
+    rows: &[Entries],
 ) -> anyhow::Result<u32> {
     let mut score = NONE_TRIED;
     for row in rows {
@@ -243,7 +242,7 @@ fn hold_compositions<K: Kind + Notation>(
 
 /// Holds the row and the column of the identity, which Allen's table leaves out, against ours: composed with it, a relation is itself.
 fn hold_identity(rt: HostRuntime) -> anyhow::Result<u32> {
-    let letters = letters_of_allen();
+    let letters = &ALLEN_LETTERS;
     let Some(identity) = code::<Spells>(letters, ALLEN_IDENTITY) else {
         return Err(anyhow!("a published letter cannot be read"));
     };
@@ -255,7 +254,7 @@ fn hold_identity(rt: HostRuntime) -> anyhow::Result<u32> {
         compose::<Spells>(identity, identity),
         set::<Spells>(letters, ALLEN_IDENTITY),
     )?;
-    for row in compositions_of_allen() {
+    for row in &ALLEN_COMPOSITIONS {
         let Some(r) = code::<Spells>(letters, row.letter) else {
             return Err(anyhow!("a published letter cannot be read"));
         };
@@ -281,12 +280,12 @@ fn hold_identity(rt: HostRuntime) -> anyhow::Result<u32> {
 
 /// The published composition of two relations of the point algebra, or none where it cannot be read.
 fn composed_points(first: &str, second: &str) -> Option<u64> {
-    let rows = compositions_of_points();
+    let rows = &POINT_COMPOSITIONS;
     for row in rows {
         if row.letter == first {
             for (column, entry) in rows.iter().zip(row.entries) {
                 if column.letter == second {
-                    return set::<Moments>(letters_of_points(), entry);
+                    return set::<Moments>(&POINT_LETTERS, entry);
                 }
             }
         }
@@ -299,11 +298,11 @@ fn composed_directions(first: &Direction, second: &Direction) -> Option<u64> {
     let east = composed_points(first.eastward, second.eastward)?;
     let north = composed_points(first.northward, second.northward)?;
     let mut found = 0;
-    for direction in all_directions() {
-        let eastward = code::<Moments>(letters_of_points(), direction.eastward)?;
-        let northward = code::<Moments>(letters_of_points(), direction.northward)?;
+    for direction in &DIRECTIONS {
+        let eastward = code::<Moments>(&POINT_LETTERS, direction.eastward)?;
+        let northward = code::<Moments>(&POINT_LETTERS, direction.northward)?;
         if contains(east, eastward) && contains(north, northward) {
-            found |= set::<Dwellings>(letters_of_directions(), direction.letter)?;
+            found |= set::<Dwellings>(&DIRECTION_LETTERS, direction.letter)?;
         }
     }
     Some(found)
@@ -312,11 +311,11 @@ fn composed_directions(first: &Direction, second: &Direction) -> Option<u64> {
 /// Holds the published compositions of the cardinal directions against ours.
 fn hold_directions(rt: HostRuntime) -> anyhow::Result<u32> {
     let mut score = NONE_TRIED;
-    for first in all_directions() {
-        for second in all_directions() {
+    for first in &DIRECTIONS {
+        for second in &DIRECTIONS {
             let (Some(r), Some(s)) = (
-                code::<Dwellings>(letters_of_directions(), first.letter),
-                code::<Dwellings>(letters_of_directions(), second.letter),
+                code::<Dwellings>(&DIRECTION_LETTERS, first.letter),
+                code::<Dwellings>(&DIRECTION_LETTERS, second.letter),
             ) else {
                 return Err(anyhow!("a published letter cannot be read"));
             };
@@ -335,7 +334,7 @@ fn hold_directions(rt: HostRuntime) -> anyhow::Result<u32> {
 
 /// The laws of a relation algebra.
 #[derive(Clone, Copy)]
-enum Law {
+enum AlgebraLaw {
     Identity,
     ConverseOfConverse,
     ConverseOfComposition,
@@ -343,30 +342,30 @@ enum Law {
     Cycle,
 }
 
-fn law_name(law: Law) -> &'static str {
+fn law_name(law: AlgebraLaw) -> &'static str {
     match law {
-        Law::Identity => "identity",
-        Law::ConverseOfConverse => "converse of a converse",
-        Law::ConverseOfComposition => "converse of a composition",
-        Law::Associativity => "associativity",
-        Law::Cycle => "cycle",
+        AlgebraLaw::Identity => "identity",
+        AlgebraLaw::ConverseOfConverse => "converse of a converse",
+        AlgebraLaw::ConverseOfComposition => "converse of a composition",
+        AlgebraLaw::Associativity => "associativity",
+        AlgebraLaw::Cycle => "cycle",
     }
 }
 
 /// How many second and third relations there are to an instance, of b relations. The identity stands on two sides.
-fn extent(law: Law, b: u8) -> (u8, u8) {
+fn extent(law: AlgebraLaw, b: u8) -> (u8, u8) {
     match law {
-        Law::Identity => (2, 1),
-        Law::ConverseOfConverse => (1, 1),
-        Law::ConverseOfComposition => (b, 1),
-        Law::Associativity | Law::Cycle => (b, b),
+        AlgebraLaw::Identity => (2, 1),
+        AlgebraLaw::ConverseOfConverse => (1, 1),
+        AlgebraLaw::ConverseOfComposition => (b, 1),
+        AlgebraLaw::Associativity | AlgebraLaw::Cycle => (b, b),
     }
 }
 
 /// Whether the law holds of the relations r, s and t; for the identity s says on which side it stands.
-fn holds<K: Kind>(law: Law, r: u8, s: u8, t: u8) -> bool {
+fn holds<K: Kind>(law: AlgebraLaw, r: u8, s: u8, t: u8) -> bool {
     match law {
-        Law::Identity => {
+        AlgebraLaw::Identity => {
             let composed = if s == 0 {
                 compose::<K>(0, r)
             } else {
@@ -374,12 +373,12 @@ fn holds<K: Kind>(law: Law, r: u8, s: u8, t: u8) -> bool {
             };
             composed == single(r)
         }
-        Law::ConverseOfConverse => K::converse(K::converse(r)) == r,
-        Law::ConverseOfComposition => converses::<K>(compose::<K>(r, s))
+        AlgebraLaw::ConverseOfConverse => K::converse(K::converse(r)) == r,
+        AlgebraLaw::ConverseOfComposition => converses::<K>(compose::<K>(r, s))
             == compose::<K>(K::converse(s), K::converse(r)),
-        Law::Associativity => compositions::<K>(compose::<K>(r, s), single(t))
+        AlgebraLaw::Associativity => compositions::<K>(compose::<K>(r, s), single(t))
             == compositions::<K>(single(r), compose::<K>(s, t)),
-        Law::Cycle => {
+        AlgebraLaw::Cycle => {
             let fits = K::fits(r, s, t);
             fits == K::fits(K::converse(r), t, s) && fits == K::fits(t, K::converse(s), r)
         }
@@ -390,7 +389,7 @@ fn holds<K: Kind>(law: Law, r: u8, s: u8, t: u8) -> bool {
 fn try_row<K: Kind + Notation>(
     rt: HostRuntime,
     score: Score,
-    law: Law,
+    law: AlgebraLaw,
     r: u8,
     s: u8,
     third: u8,
@@ -411,7 +410,7 @@ fn try_row<K: Kind + Notation>(
 }
 
 /// Tries a law over all base relations of a kind; how many instances fail.
-fn try_law<K: Kind + Notation>(rt: HostRuntime, law: Law) -> io::Result<u32> {
+fn try_law<K: Kind + Notation>(rt: HostRuntime, law: AlgebraLaw) -> io::Result<u32> {
     let (second, third) = extent(law, K::count());
     let mut score = NONE_TRIED;
     for r in 0..K::count() {
@@ -432,11 +431,11 @@ fn try_law<K: Kind + Notation>(rt: HostRuntime, law: Law) -> io::Result<u32> {
 fn try_laws<K: Kind + Notation>(rt: HostRuntime) -> io::Result<u32> {
     let mut failing: u32 = 0;
     for law in [
-        Law::Identity,
-        Law::ConverseOfConverse,
-        Law::ConverseOfComposition,
-        Law::Associativity,
-        Law::Cycle,
+        AlgebraLaw::Identity,
+        AlgebraLaw::ConverseOfConverse,
+        AlgebraLaw::ConverseOfComposition,
+        AlgebraLaw::Associativity,
+        AlgebraLaw::Cycle,
     ] {
         failing = failing.saturating_add(try_law::<K>(rt, law)?);
     }
@@ -445,27 +444,27 @@ fn try_laws<K: Kind + Notation>(rt: HostRuntime) -> io::Result<u32> {
 
 /// Holds our tables against all published ones; how many entries differ.
 fn hold_all(rt: HostRuntime) -> anyhow::Result<u32> {
-    let mut differ = hold_converses::<Moments>(rt, letters_of_points(), converses_of_points())?;
+    let mut differ = hold_converses::<Moments>(rt, &POINT_LETTERS, &POINT_CONVERSES)?;
     differ = differ.saturating_add(hold_compositions::<Moments>(
         rt,
-        letters_of_points(),
-        compositions_of_points(),
+        &POINT_LETTERS,
+        &POINT_COMPOSITIONS,
     )?);
     differ = differ.saturating_add(hold_converses::<Spells>(
         rt,
-        letters_of_intervals(),
-        converses_of_intervals(),
+        &INTERVAL_LETTERS,
+        &INTERVAL_CONVERSES,
     )?);
     differ = differ.saturating_add(hold_compositions::<Spells>(
         rt,
-        letters_of_allen(),
-        compositions_of_allen(),
+        &ALLEN_LETTERS,
+        &ALLEN_COMPOSITIONS,
     )?);
     differ = differ.saturating_add(hold_identity(rt)?);
     differ = differ.saturating_add(hold_converses::<Dwellings>(
         rt,
-        letters_of_directions(),
-        converses_of_directions(),
+        &DIRECTION_LETTERS,
+        &DIRECTION_CONVERSES,
     )?);
     differ = differ.saturating_add(hold_directions(rt)?);
     Ok(differ)
