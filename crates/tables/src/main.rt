@@ -1,11 +1,16 @@
 // Prints our tables of moments, spells and dwellings, holds them against published ones, and tries the laws of a relation algebra.
 #![tactic(auto)]
 
+ghost use Rattle.std.specs.Prelude.{◌≡◌, ℕ, ◌==◌, length, IfOk, IsErr, IsOk};
+ghost use Rattle.tables.specs.Relations.{Whole};
+ghost use Rattle.tables.specs.Scores.{score_after};
+
 mod algebra;
 mod published;
+mod score;
 mod transitivity;
 
-use algebra::{compositions, converses, single};
+use algebra::{compositions, converses, single, whole};
 use anyhow::anyhow;
 use dwellings::Dwellings;
 use kinds::composition::compose;
@@ -17,31 +22,10 @@ use published::{
     DIRECTION_CONVERSES, DIRECTION_LETTERS, DIRECTIONS, Direction, Entries, INTERVAL_CONVERSES,
     INTERVAL_LETTERS, Letter, POINT_COMPOSITIONS, POINT_CONVERSES, POINT_LETTERS, Turned,
 };
+use score::{NONE_TRIED, Score, counted, tried};
 use spells::Spells;
 use std::io;
 use transitivity::{ALLEN_COMPOSITIONS, ALLEN_IDENTITY, ALLEN_LETTERS};
-
-/// How many entries or instances were tried, and how many of them stand.
-#[derive(Clone, Copy)]
-struct Score {
-    stand: u32,
-    tried: u32,
-}
-
-const NONE_TRIED: Score = Score { stand: 0, tried: 0 };
-
-/// One more that was tried.
-fn counted(score: Score, stands: bool) -> Score {
-    Score {
-        stand: score.stand.saturating_add(u32::from(stands)),
-        tried: score.tried.saturating_add(1),
-    }
-}
-
-/// How many do not stand.
-fn lacking(score: Score) -> u32 {
-    score.tried.saturating_sub(score.stand)
-}
 
 /// Prints the words of a set in the order of the codes, each after a space.
 fn print_set<K: Notation>(rt: HostRuntime, set: u64) -> io::Result<()> {
@@ -85,7 +69,7 @@ fn print_compositions<K: Kind + Notation>(rt: HostRuntime) -> io::Result<()> {
             score = counted_row::<K>(score, c, d);
         }
     }
-    println!(rt; "fitting triples {} of {}", score.stand, score.tried)
+    println!(rt; "fitting triples {} of {}", score.stand, tried(score))
 }
 
 /// The triples of a first and a second relation, counted in.
@@ -127,6 +111,24 @@ fn code<K: Notation>(letters: &[Letter], text: &str) -> Option<u8> {
     K::code(meant(letters, text)?.as_bytes())
 }
 
+/// The code of the base relation that a letter stands for; an error where it stands for no single one.
+fn read_code<K: Notation>(letters: &[Letter], text: &str) -> anyhow::Result<u8> {
+    let Some(code) = code::<K>(letters, text) else {
+        return Err(anyhow!("a published letter cannot be read"));
+    };
+    Ok(code)
+}
+
+/// An error where the set is not that of all base relations of the kind.
+fn hold_whole<K: Kind>(met: u64) -> anyhow::Result<()>
+    ensures { IsOk result → Whole K.Kind.meaning met }
+{
+    if met != whole::<K>() {
+        return Err(anyhow!("a published table leaves out a relation"));
+    }
+    Ok(())
+}
+
 /// The set that a published entry gives: a letter, or several that are parted by spaces. None where one is unknown.
 fn set<K: Notation>(letters: &[Letter], entry: &str) -> Option<u64> {
     if let Some(words) = meant(letters, entry) {
@@ -147,7 +149,10 @@ fn hold<K: Notation>(
     second: u8,
     ours: u64,
     published: Option<u64>,
-) -> anyhow::Result<Score> {
+) -> anyhow::Result<Score>
+    ensures unread { published ≡ None → IsErr result }
+    ensures counted { IfOk result (λ after. (set : ℕ) → published ≡ Some set → after ≡ score_after score (ours == set)) }
+{
     let Some(published) = published else {
         return Err(anyhow!("a published entry cannot be read"));
     };
@@ -171,9 +176,9 @@ fn print_score(rt: HostRuntime, letter: u8, table: &str, score: Score) -> anyhow
         "published {} {table}: {} of {} agree",
         char::from(letter),
         score.stand,
-        score.tried
+        tried(score)
     )?;
-    Ok(lacking(score))
+    Ok(score.lacking)
 }
 
 /// Holds published converses against ours.
@@ -183,10 +188,10 @@ fn hold_converses<K: Kind + Notation>(
     pairs: &[Turned],
 ) -> anyhow::Result<u32> {
     let mut score = NONE_TRIED;
+    let mut met = 0;
     for Turned(relation, converse) in pairs {
-        let Some(r) = code::<K>(letters, relation) else {
-            return Err(anyhow!("a published letter cannot be read"));
-        };
+        let r = read_code::<K>(letters, relation)?;
+        met |= single(r);
         score = hold::<K>(
             rt,
             score,
@@ -196,25 +201,27 @@ fn hold_converses<K: Kind + Notation>(
             set::<K>(letters, converse),
         )?;
     }
+    hold_whole::<K>(met)?;
     print_score(rt, K::letter(), "converse", score)
 }
 
-/// Holds one row of a published table against ours. Its columns are in the order of the rows.
+/// Holds the entries in the row of r of a published table against ours. The columns are in the order of the rows.
 fn hold_row<K: Kind + Notation>(
     rt: HostRuntime,
     score: Score,
     letters: &[Letter],
     rows: &[Entries],
-    row: &Entries,
-) -> anyhow::Result<Score> {
+    r: u8,
+    entries: &[&str],
+) -> anyhow::Result<Score>
+    ensures { IsOk result → length entries.now ≡ length rows.now }
+{
+    if entries.len() != rows.len() {
+        return Err(anyhow!("a published row has not one entry for each column"));
+    }
     let mut score = score;
-    for (column, entry) in rows.iter().zip(row.entries) {
-        let (Some(r), Some(s)) = (
-            code::<K>(letters, row.letter),
-            code::<K>(letters, column.letter),
-        ) else {
-            return Err(anyhow!("a published letter cannot be read"));
-        };
+    for (column, entry) in rows.iter().zip(entries) {
+        let s = read_code::<K>(letters, column.letter)?;
         score = hold::<K>(
             rt,
             score,
@@ -227,25 +234,28 @@ fn hold_row<K: Kind + Notation>(
     Ok(score)
 }
 
-/// Holds a published table of compositions against ours.
+/// Holds a published table of compositions against ours. It has a row for each relation but those of a given set.
 fn hold_compositions<K: Kind + Notation>(
     rt: HostRuntime,
     letters: &[Letter],
     rows: &[Entries],
+    left_out: u64,
 ) -> anyhow::Result<u32> {
     let mut score = NONE_TRIED;
+    let mut met = left_out;
     for row in rows {
-        score = hold_row::<K>(rt, score, letters, rows, row)?;
+        let r = read_code::<K>(letters, row.letter)?;
+        met |= single(r);
+        score = hold_row::<K>(rt, score, letters, rows, r, row.entries)?;
     }
+    hold_whole::<K>(met)?;
     print_score(rt, K::letter(), "composition", score)
 }
 
 /// Holds the row and the column of the identity, which Allen's table leaves out, against ours: composed with it, a relation is itself.
 fn hold_identity(rt: HostRuntime) -> anyhow::Result<u32> {
     let letters = &ALLEN_LETTERS;
-    let Some(identity) = code::<Spells>(letters, ALLEN_IDENTITY) else {
-        return Err(anyhow!("a published letter cannot be read"));
-    };
+    let identity = read_code::<Spells>(letters, ALLEN_IDENTITY)?;
     let mut score = hold::<Spells>(
         rt,
         NONE_TRIED,
@@ -255,9 +265,7 @@ fn hold_identity(rt: HostRuntime) -> anyhow::Result<u32> {
         set::<Spells>(letters, ALLEN_IDENTITY),
     )?;
     for row in &ALLEN_COMPOSITIONS {
-        let Some(r) = code::<Spells>(letters, row.letter) else {
-            return Err(anyhow!("a published letter cannot be read"));
-        };
+        let r = read_code::<Spells>(letters, row.letter)?;
         score = hold::<Spells>(
             rt,
             score,
@@ -311,14 +319,12 @@ fn composed_directions(first: &Direction, second: &Direction) -> Option<u64> {
 /// Holds the published compositions of the cardinal directions against ours.
 fn hold_directions(rt: HostRuntime) -> anyhow::Result<u32> {
     let mut score = NONE_TRIED;
+    let mut met = 0;
     for first in &DIRECTIONS {
+        let r = read_code::<Dwellings>(&DIRECTION_LETTERS, first.letter)?;
+        met |= single(r);
         for second in &DIRECTIONS {
-            let (Some(r), Some(s)) = (
-                code::<Dwellings>(&DIRECTION_LETTERS, first.letter),
-                code::<Dwellings>(&DIRECTION_LETTERS, second.letter),
-            ) else {
-                return Err(anyhow!("a published letter cannot be read"));
-            };
+            let s = read_code::<Dwellings>(&DIRECTION_LETTERS, second.letter)?;
             score = hold::<Dwellings>(
                 rt,
                 score,
@@ -329,6 +335,7 @@ fn hold_directions(rt: HostRuntime) -> anyhow::Result<u32> {
             )?;
         }
     }
+    hold_whole::<Dwellings>(met)?;
     print_score(rt, <Dwellings as Notation>::letter(), "composition", score)
 }
 
@@ -423,9 +430,9 @@ fn try_law<K: Kind + Notation>(rt: HostRuntime, law: AlgebraLaw) -> io::Result<u
         char::from(K::letter()),
         law_name(law),
         score.stand,
-        score.tried
+        tried(score)
     )?;
-    Ok(lacking(score))
+    Ok(score.lacking)
 }
 
 fn try_laws<K: Kind + Notation>(rt: HostRuntime) -> io::Result<u32> {
@@ -444,11 +451,13 @@ fn try_laws<K: Kind + Notation>(rt: HostRuntime) -> io::Result<u32> {
 
 /// Holds our tables against all published ones; how many entries differ.
 fn hold_all(rt: HostRuntime) -> anyhow::Result<u32> {
+    let identity = single(read_code::<Spells>(&ALLEN_LETTERS, ALLEN_IDENTITY)?);
     let mut differ = hold_converses::<Moments>(rt, &POINT_LETTERS, &POINT_CONVERSES)?;
     differ = differ.saturating_add(hold_compositions::<Moments>(
         rt,
         &POINT_LETTERS,
         &POINT_COMPOSITIONS,
+        0,
     )?);
     differ = differ.saturating_add(hold_converses::<Spells>(
         rt,
@@ -459,6 +468,7 @@ fn hold_all(rt: HostRuntime) -> anyhow::Result<u32> {
         rt,
         &ALLEN_LETTERS,
         &ALLEN_COMPOSITIONS,
+        identity,
     )?);
     differ = differ.saturating_add(hold_identity(rt)?);
     differ = differ.saturating_add(hold_converses::<Dwellings>(
@@ -470,6 +480,15 @@ fn hold_all(rt: HostRuntime) -> anyhow::Result<u32> {
     Ok(differ)
 }
 
+/// The line on all tables and laws.
+fn print_summary(rt: HostRuntime, differ: u32) -> io::Result<()> {
+    if differ == 0 {
+        println!(rt; "all agree")
+    } else {
+        println!(rt; "{differ} differ")
+    }
+}
+
 fn run(rt: HostRuntime) -> anyhow::Result<()> {
     print_kind::<Moments>(rt, "moments")?;
     print_kind::<Spells>(rt, "spells")?;
@@ -478,11 +497,7 @@ fn run(rt: HostRuntime) -> anyhow::Result<()> {
     differ = differ.saturating_add(try_laws::<Moments>(rt)?);
     differ = differ.saturating_add(try_laws::<Spells>(rt)?);
     differ = differ.saturating_add(try_laws::<Dwellings>(rt)?);
-    if differ == 0 {
-        println!(rt; "all agree")?;
-    } else {
-        println!(rt; "{differ} differ")?;
-    }
+    print_summary(rt, differ)?;
     println!(rt; "figures {} proved", figures::count())?;
     Ok(())
 }
