@@ -505,3 +505,67 @@ fn run(rt: HostRuntime) -> anyhow::Result<()> {
 fn main(rt: HostRuntime) -> anyhow::Result<()> {
     run(rt)
 }
+
+#[cfg(test)]
+mod tests {
+    use super::*;
+    use std::test::Fail;
+
+    // The table of the point algebra with one wrong entry: > for < composed with <.
+    static ONE_TURNED: [Entries; 3] = [
+        Entries {
+            letter: "<",
+            entries: &[">", "B", "<"],
+        },
+        Entries {
+            letter: ">",
+            entries: &["B", ">", ">"],
+        },
+        Entries {
+            letter: "=",
+            entries: &["<", ">", "="],
+        },
+    ];
+
+    // The table of the point algebra without the last entry of its first row.
+    static ONE_LOST: [Entries; 3] = [
+        Entries {
+            letter: "<",
+            entries: &["<", "B"],
+        },
+        Entries {
+            letter: ">",
+            entries: &["B", ">", ">"],
+        },
+        Entries {
+            letter: "=",
+            entries: &["<", ">", "="],
+        },
+    ];
+
+    fn differing(rt: HostRuntime, rows: &[Entries]) -> Option<u32> {
+        hold_compositions::<Moments>(rt, &POINT_LETTERS, rows, 0).ok()
+    }
+
+    #[test]
+    fn counts_differences(rt: HostRuntime) -> Result<(), Fail> {
+        assert_eq!(rt; differing(rt, &POINT_COMPOSITIONS), Some(0));
+        assert_eq!(rt; differing(rt, &ONE_TURNED), Some(1));
+        assert_eq!(rt; differing(rt, &ONE_LOST), None, "a row lost an entry");
+        assert_eq!(rt;
+            differing(rt, &POINT_COMPOSITIONS[1..]),
+            None,
+            "a row is lost"
+        );
+        print_summary(rt, 1)?;
+        Ok(())
+    }
+
+    // 3 is no code of a moment, so composed with the identity it gives no relation.
+    #[test]
+    fn counts_failures(rt: HostRuntime) -> Result<(), Fail> {
+        let score = try_row::<Moments>(rt, NONE_TRIED, AlgebraLaw::Identity, 3, 0, 1)?;
+        assert_eq!(rt; (score.stand, score.lacking), (0, 1));
+        Ok(())
+    }
+}
