@@ -116,3 +116,33 @@ union_all members Gives n set small done all e = (
   where
     within : (c : ℕ) → c < 64 → c < n
     within c l = omega arith
+
+-- The set has exactly the codes e below n, and below 64.
+abbrev pub Below : ℕ → ℕ → Type 0
+Below n set = (e : ℕ) → Decides (has set e) ((e < n) × (e < 64))
+
+pub below_none : Below 0 0
+below_none e = (λ p. absurd (both_ways (has 0 e) (has_none e) p), λ some. absurd (never e some.0))
+
+pub below_more : (n set one : ℕ) → Below n set → Single n one → Below (n + 1) (bit_or set one)
+below_more n set one old new e = (forth, back)
+  where
+    forth : has (bit_or set one) e ≡ true → (e < n + 1) × (e < 64)
+    forth p = elim (or_cases (has set e) (has one e) (sym (has_union set one e) ∙ p)) [
+      | inl q ↦ (let small = (old e).0 q in (below_next e n small.0, small.1))
+      | inr q ↦ (let same = (new e).0 q in (omega (arith, same.0), omega (arith, same.0, same.1)))
+    ]
+
+    back : (e < n + 1) × (e < 64) → has (bit_or set one) e ≡ true
+    back some = elim (cases_order e n) [
+      | inl same ↦ has_union set one e ∙ or_right (has set e) (has one e) ((new e).1 (same, omega (arith, same, some.1)))
+      | inr (inl below) ↦ has_union set one e ∙ or_left (has set e) (has one e) ((old e).1 (below, some.1))
+      | inr (inr above) ↦ absurd (between e n some.0 above)
+    ]
+
+-- all codes of a kind that has at most 64
+pub below_all : (n codes set : ℕ) → n ≤ codes → codes ≤ n → codes ≤ 64 → Below n set → (e : ℕ) → Decides (has set e) (e < codes)
+below_all n codes set most all few below e = (
+  λ p. omega (arith, ((below e).0 p).0, most),
+  λ l. (below e).1 (omega (arith, l, all), omega (arith, l, few)),
+)

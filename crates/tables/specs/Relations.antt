@@ -7,6 +7,10 @@ use Rattle.kinds.specs.Meaning.{Meaning, Fits}
 abbrev pub Single : ℕ → ℕ → Type 0
 Single c set = (e : ℕ) → Decides (has set e) ((e ≡ c) × (c < 64))
 
+-- The set has exactly the codes of the kind.
+abbrev pub Whole : {V : Type 0} → Meaning V → ℕ → Type 0
+Whole m set = (e : ℕ) → Decides (has set e) (e < m.codes)
+
 -- e is the converse of c, and below 64.
 abbrev pub Turns : {V : Type 0} → Meaning V → ℕ → ℕ → Type 0
 Turns m c e = (e ≡ m.converse c) × (m.converse c < 64)

@@ -1,5 +1,5 @@
 // Converse and composition of sets of base relations.
-ghost use Rattle.tables.specs.Relations.{Single, Converses, Compositions, CompositionsFrom};
+ghost use Rattle.tables.specs.Relations.{Single, Whole, Converses, Compositions, CompositionsFrom};
 
 use kinds::composition::compose;
 use kinds::kind::Kind;
@@ -10,6 +10,17 @@ pub(crate) fn single(code: u8) -> u64
     ensures { Single code result }
 {
     if code < 64 { 1 << code } else { 0 }
+}
+
+/// The set of all base relations of a kind.
+pub(crate) fn whole<K: Kind>() -> u64
+    ensures { Whole K.Kind.meaning result }
+{
+    let mut found = 0;
+    for c in 0..K::count() {
+        found |= single(c);
+    }
+    found
 }
 
 /// The set of the converses of the members of a set.

@@ -1,11 +1,16 @@
 // Prints our tables of moments, spells and dwellings, holds them against published ones, and tries the laws of a relation algebra.
 #![tactic(auto)]
 
+ghost use Rattle.std.specs.Prelude.{◌≡◌, ℕ, ◌==◌, length, IfOk, IsErr, IsOk};
+ghost use Rattle.tables.specs.Relations.{Whole};
+ghost use Rattle.tables.specs.Scores.{score_after};
+
 mod algebra;
 mod published;
+mod score;
 mod transitivity;
 
-use algebra::{compositions, converses, single};
+use algebra::{compositions, converses, single, whole};
 use anyhow::anyhow;
 use dwellings::Dwellings;
 use kinds::composition::compose;
@@ -14,35 +19,13 @@ use kinds::notation::Notation;
 use moments::Moments;
 use points::set::contains;
 use published::{
-    Direction, Letter, Row, Turned, all_directions, compositions_of_points,
-    converses_of_directions, converses_of_intervals, converses_of_points, letters_of_directions,
-    letters_of_intervals, letters_of_points,
+    DIRECTION_CONVERSES, DIRECTION_LETTERS, DIRECTIONS, Direction, Entries, INTERVAL_CONVERSES,
+    INTERVAL_LETTERS, Letter, POINT_COMPOSITIONS, POINT_CONVERSES, POINT_LETTERS, Turned,
 };
+use score::{NONE_TRIED, Score, counted, tried};
 use spells::Spells;
 use std::io;
-use transitivity::{ALLEN_IDENTITY, compositions_of_allen, letters_of_allen};
-
-/// How many entries or instances were tried, and how many of them stand.
-#[derive(Clone, Copy)]
-struct Score {
-    stand: u32,
-    tried: u32,
-}
-
-const NONE_TRIED: Score = Score { stand: 0, tried: 0 };
-
-/// One more that was tried.
-fn counted(score: Score, stands: bool) -> Score {
-    Score {
-        stand: score.stand.saturating_add(u32::from(stands)),
-        tried: score.tried.saturating_add(1),
-    }
-}
-
-/// How many do not stand.
-fn lacking(score: Score) -> u32 {
-    score.tried.saturating_sub(score.stand)
-}
+use transitivity::{ALLEN_COMPOSITIONS, ALLEN_IDENTITY, ALLEN_LETTERS};
 
 /// Prints the words of a set in the order of the codes, each after a space.
 fn print_set<K: Notation>(rt: HostRuntime, set: u64) -> io::Result<()> {
@@ -86,7 +69,7 @@ fn print_compositions<K: Kind + Notation>(rt: HostRuntime) -> io::Result<()> {
             score = counted_row::<K>(score, c, d);
         }
     }
-    println!(rt; "fitting triples {} of {}", score.stand, score.tried)
+    println!(rt; "fitting triples {} of {}", score.stand, tried(score))
 }
 
 /// The triples of a first and a second relation, counted in.
@@ -128,6 +111,24 @@ fn code<K: Notation>(letters: &[Letter], text: &str) -> Option<u8> {
     K::code(meant(letters, text)?.as_bytes())
 }
 
+/// The code of the base relation that a letter stands for; an error where it stands for no single one.
+fn read_code<K: Notation>(letters: &[Letter], text: &str) -> anyhow::Result<u8> {
+    let Some(code) = code::<K>(letters, text) else {
+        return Err(anyhow!("a published letter cannot be read"));
+    };
+    Ok(code)
+}
+
+/// An error where the set is not that of all base relations of the kind.
+fn hold_whole<K: Kind>(met: u64) -> anyhow::Result<()>
+    ensures { IsOk result → Whole K.Kind.meaning met }
+{
+    if met != whole::<K>() {
+        return Err(anyhow!("a published table leaves out a relation"));
+    }
+    Ok(())
+}
+
 /// The set that a published entry gives: a letter, or several that are parted by spaces. None where one is unknown.
 fn set<K: Notation>(letters: &[Letter], entry: &str) -> Option<u64> {
     if let Some(words) = meant(letters, entry) {
@@ -148,7 +149,10 @@ fn hold<K: Notation>(
     second: u8,
     ours: u64,
     published: Option<u64>,
-) -> anyhow::Result<Score> {
+) -> anyhow::Result<Score>
+    ensures unread { published ≡ None → IsErr result }
+    ensures counted { IfOk result (λ after. (set : ℕ) → published ≡ Some set → after ≡ score_after score (ours == set)) }
+{
     let Some(published) = published else {
         return Err(anyhow!("a published entry cannot be read"));
     };
@@ -172,9 +176,9 @@ fn print_score(rt: HostRuntime, letter: u8, table: &str, score: Score) -> anyhow
         "published {} {table}: {} of {} agree",
         char::from(letter),
         score.stand,
-        score.tried
+        tried(score)
     )?;
-    Ok(lacking(score))
+    Ok(score.lacking)
 }
 
 /// Holds published converses against ours.
@@ -184,10 +188,10 @@ fn hold_converses<K: Kind + Notation>(
     pairs: &[Turned],
 ) -> anyhow::Result<u32> {
     let mut score = NONE_TRIED;
+    let mut met = 0;
     for Turned(relation, converse) in pairs {
-        let Some(r) = code::<K>(letters, relation) else {
-            return Err(anyhow!("a published letter cannot be read"));
-        };
+        let r = read_code::<K>(letters, relation)?;
+        met |= single(r);
         score = hold::<K>(
             rt,
             score,
@@ -197,25 +201,27 @@ fn hold_converses<K: Kind + Notation>(
             set::<K>(letters, converse),
         )?;
     }
+    hold_whole::<K>(met)?;
     print_score(rt, K::letter(), "converse", score)
 }
 
-/// Holds one row of a published table against ours. Its columns are in the order of the rows.
+/// Holds the entries in the row of r of a published table against ours. The columns are in the order of the rows.
 fn hold_row<K: Kind + Notation>(
     rt: HostRuntime,
     score: Score,
     letters: &[Letter],
-    rows: &[Row],
-    row: &Row,
-) -> anyhow::Result<Score> {
+    rows: &[Entries],
+    r: u8,
+    entries: &[&str],
+) -> anyhow::Result<Score>
+    ensures { IsOk result → length entries.now ≡ length rows.now }
+{
+    if entries.len() != rows.len() {
+        return Err(anyhow!("a published row has not one entry for each column"));
+    }
     let mut score = score;
-    for (column, entry) in rows.iter().zip(row.entries) {
-        let (Some(r), Some(s)) = (
-            code::<K>(letters, row.letter),
-            code::<K>(letters, column.letter),
-        ) else {
-            return Err(anyhow!("a published letter cannot be read"));
-        };
+    for (column, entry) in rows.iter().zip(entries) {
+        let s = read_code::<K>(letters, column.letter)?;
         score = hold::<K>(
             rt,
             score,
@@ -228,25 +234,28 @@ fn hold_row<K: Kind + Notation>(
     Ok(score)
 }
 
-/// Holds a published table of compositions against ours.
+/// Holds a published table of compositions against ours. It has a row for each relation but those of a given set.
 fn hold_compositions<K: Kind + Notation>(
     rt: HostRuntime,
     letters: &[Letter],
-    rows: &[Row],
+    rows: &[Entries],
+    left_out: u64,
 ) -> anyhow::Result<u32> {
     let mut score = NONE_TRIED;
+    let mut met = left_out;
     for row in rows {
-        score = hold_row::<K>(rt, score, letters, rows, row)?;
+        let r = read_code::<K>(letters, row.letter)?;
+        met |= single(r);
+        score = hold_row::<K>(rt, score, letters, rows, r, row.entries)?;
     }
+    hold_whole::<K>(met)?;
     print_score(rt, K::letter(), "composition", score)
 }
 
 /// Holds the row and the column of the identity, which Allen's table leaves out, against ours: composed with it, a relation is itself.
 fn hold_identity(rt: HostRuntime) -> anyhow::Result<u32> {
-    let letters = letters_of_allen();
-    let Some(identity) = code::<Spells>(letters, ALLEN_IDENTITY) else {
-        return Err(anyhow!("a published letter cannot be read"));
-    };
+    let letters = &ALLEN_LETTERS;
+    let identity = read_code::<Spells>(letters, ALLEN_IDENTITY)?;
     let mut score = hold::<Spells>(
         rt,
         NONE_TRIED,
@@ -255,10 +264,8 @@ fn hold_identity(rt: HostRuntime) -> anyhow::Result<u32> {
         compose::<Spells>(identity, identity),
         set::<Spells>(letters, ALLEN_IDENTITY),
     )?;
-    for row in compositions_of_allen() {
-        let Some(r) = code::<Spells>(letters, row.letter) else {
-            return Err(anyhow!("a published letter cannot be read"));
-        };
+    for row in &ALLEN_COMPOSITIONS {
+        let r = read_code::<Spells>(letters, row.letter)?;
         score = hold::<Spells>(
             rt,
             score,
@@ -281,12 +288,12 @@ fn hold_identity(rt: HostRuntime) -> anyhow::Result<u32> {
 
 /// The published composition of two relations of the point algebra, or none where it cannot be read.
 fn composed_points(first: &str, second: &str) -> Option<u64> {
-    let rows = compositions_of_points();
+    let rows = &POINT_COMPOSITIONS;
     for row in rows {
         if row.letter == first {
             for (column, entry) in rows.iter().zip(row.entries) {
                 if column.letter == second {
-                    return set::<Moments>(letters_of_points(), entry);
+                    return set::<Moments>(&POINT_LETTERS, entry);
                 }
             }
         }
@@ -299,11 +306,11 @@ fn composed_directions(first: &Direction, second: &Direction) -> Option<u64> {
     let east = composed_points(first.eastward, second.eastward)?;
     let north = composed_points(first.northward, second.northward)?;
     let mut found = 0;
-    for direction in all_directions() {
-        let eastward = code::<Moments>(letters_of_points(), direction.eastward)?;
-        let northward = code::<Moments>(letters_of_points(), direction.northward)?;
+    for direction in &DIRECTIONS {
+        let eastward = code::<Moments>(&POINT_LETTERS, direction.eastward)?;
+        let northward = code::<Moments>(&POINT_LETTERS, direction.northward)?;
         if contains(east, eastward) && contains(north, northward) {
-            found |= set::<Dwellings>(letters_of_directions(), direction.letter)?;
+            found |= set::<Dwellings>(&DIRECTION_LETTERS, direction.letter)?;
         }
     }
     Some(found)
@@ -312,14 +319,12 @@ fn composed_directions(first: &Direction, second: &Direction) -> Option<u64> {
 /// Holds the published compositions of the cardinal directions against ours.
 fn hold_directions(rt: HostRuntime) -> anyhow::Result<u32> {
     let mut score = NONE_TRIED;
-    for first in all_directions() {
-        for second in all_directions() {
-            let (Some(r), Some(s)) = (
-                code::<Dwellings>(letters_of_directions(), first.letter),
-                code::<Dwellings>(letters_of_directions(), second.letter),
-            ) else {
-                return Err(anyhow!("a published letter cannot be read"));
-            };
+    let mut met = 0;
+    for first in &DIRECTIONS {
+        let r = read_code::<Dwellings>(&DIRECTION_LETTERS, first.letter)?;
+        met |= single(r);
+        for second in &DIRECTIONS {
+            let s = read_code::<Dwellings>(&DIRECTION_LETTERS, second.letter)?;
             score = hold::<Dwellings>(
                 rt,
                 score,
@@ -330,12 +335,13 @@ fn hold_directions(rt: HostRuntime) -> anyhow::Result<u32> {
             )?;
         }
     }
+    hold_whole::<Dwellings>(met)?;
     print_score(rt, <Dwellings as Notation>::letter(), "composition", score)
 }
 
 /// The laws of a relation algebra.
 #[derive(Clone, Copy)]
-enum Law {
+enum AlgebraLaw {
     Identity,
     ConverseOfConverse,
     ConverseOfComposition,
@@ -343,30 +349,30 @@ enum Law {
     Cycle,
 }
 
-fn law_name(law: Law) -> &'static str {
+fn law_name(law: AlgebraLaw) -> &'static str {
     match law {
-        Law::Identity => "identity",
-        Law::ConverseOfConverse => "converse of a converse",
-        Law::ConverseOfComposition => "converse of a composition",
-        Law::Associativity => "associativity",
-        Law::Cycle => "cycle",
+        AlgebraLaw::Identity => "identity",
+        AlgebraLaw::ConverseOfConverse => "converse of a converse",
+        AlgebraLaw::ConverseOfComposition => "converse of a composition",
+        AlgebraLaw::Associativity => "associativity",
+        AlgebraLaw::Cycle => "cycle",
     }
 }
 
 /// How many second and third relations there are to an instance, of b relations. The identity stands on two sides.
-fn extent(law: Law, b: u8) -> (u8, u8) {
+fn extent(law: AlgebraLaw, b: u8) -> (u8, u8) {
     match law {
-        Law::Identity => (2, 1),
-        Law::ConverseOfConverse => (1, 1),
-        Law::ConverseOfComposition => (b, 1),
-        Law::Associativity | Law::Cycle => (b, b),
+        AlgebraLaw::Identity => (2, 1),
+        AlgebraLaw::ConverseOfConverse => (1, 1),
+        AlgebraLaw::ConverseOfComposition => (b, 1),
+        AlgebraLaw::Associativity | AlgebraLaw::Cycle => (b, b),
     }
 }
 
 /// Whether the law holds of the relations r, s and t; for the identity s says on which side it stands.
-fn holds<K: Kind>(law: Law, r: u8, s: u8, t: u8) -> bool {
+fn holds<K: Kind>(law: AlgebraLaw, r: u8, s: u8, t: u8) -> bool {
     match law {
-        Law::Identity => {
+        AlgebraLaw::Identity => {
             let composed = if s == 0 {
                 compose::<K>(0, r)
             } else {
@@ -374,12 +380,12 @@ fn holds<K: Kind>(law: Law, r: u8, s: u8, t: u8) -> bool {
             };
             composed == single(r)
         }
-        Law::ConverseOfConverse => K::converse(K::converse(r)) == r,
-        Law::ConverseOfComposition => converses::<K>(compose::<K>(r, s))
+        AlgebraLaw::ConverseOfConverse => K::converse(K::converse(r)) == r,
+        AlgebraLaw::ConverseOfComposition => converses::<K>(compose::<K>(r, s))
             == compose::<K>(K::converse(s), K::converse(r)),
-        Law::Associativity => compositions::<K>(compose::<K>(r, s), single(t))
+        AlgebraLaw::Associativity => compositions::<K>(compose::<K>(r, s), single(t))
             == compositions::<K>(single(r), compose::<K>(s, t)),
-        Law::Cycle => {
+        AlgebraLaw::Cycle => {
             let fits = K::fits(r, s, t);
             fits == K::fits(K::converse(r), t, s) && fits == K::fits(t, K::converse(s), r)
         }
@@ -390,7 +396,7 @@ fn holds<K: Kind>(law: Law, r: u8, s: u8, t: u8) -> bool {
 fn try_row<K: Kind + Notation>(
     rt: HostRuntime,
     score: Score,
-    law: Law,
+    law: AlgebraLaw,
     r: u8,
     s: u8,
     third: u8,
@@ -411,7 +417,7 @@ fn try_row<K: Kind + Notation>(
 }
 
 /// Tries a law over all base relations of a kind; how many instances fail.
-fn try_law<K: Kind + Notation>(rt: HostRuntime, law: Law) -> io::Result<u32> {
+fn try_law<K: Kind + Notation>(rt: HostRuntime, law: AlgebraLaw) -> io::Result<u32> {
     let (second, third) = extent(law, K::count());
     let mut score = NONE_TRIED;
     for r in 0..K::count() {
@@ -424,19 +430,19 @@ fn try_law<K: Kind + Notation>(rt: HostRuntime, law: Law) -> io::Result<u32> {
         char::from(K::letter()),
         law_name(law),
         score.stand,
-        score.tried
+        tried(score)
     )?;
-    Ok(lacking(score))
+    Ok(score.lacking)
 }
 
 fn try_laws<K: Kind + Notation>(rt: HostRuntime) -> io::Result<u32> {
     let mut failing: u32 = 0;
     for law in [
-        Law::Identity,
-        Law::ConverseOfConverse,
-        Law::ConverseOfComposition,
-        Law::Associativity,
-        Law::Cycle,
+        AlgebraLaw::Identity,
+        AlgebraLaw::ConverseOfConverse,
+        AlgebraLaw::ConverseOfComposition,
+        AlgebraLaw::Associativity,
+        AlgebraLaw::Cycle,
     ] {
         failing = failing.saturating_add(try_law::<K>(rt, law)?);
     }
@@ -445,30 +451,42 @@ fn try_laws<K: Kind + Notation>(rt: HostRuntime) -> io::Result<u32> {
 
 /// Holds our tables against all published ones; how many entries differ.
 fn hold_all(rt: HostRuntime) -> anyhow::Result<u32> {
-    let mut differ = hold_converses::<Moments>(rt, letters_of_points(), converses_of_points())?;
+    let identity = single(read_code::<Spells>(&ALLEN_LETTERS, ALLEN_IDENTITY)?);
+    let mut differ = hold_converses::<Moments>(rt, &POINT_LETTERS, &POINT_CONVERSES)?;
     differ = differ.saturating_add(hold_compositions::<Moments>(
         rt,
-        letters_of_points(),
-        compositions_of_points(),
+        &POINT_LETTERS,
+        &POINT_COMPOSITIONS,
+        0,
     )?);
     differ = differ.saturating_add(hold_converses::<Spells>(
         rt,
-        letters_of_intervals(),
-        converses_of_intervals(),
+        &INTERVAL_LETTERS,
+        &INTERVAL_CONVERSES,
     )?);
     differ = differ.saturating_add(hold_compositions::<Spells>(
         rt,
-        letters_of_allen(),
-        compositions_of_allen(),
+        &ALLEN_LETTERS,
+        &ALLEN_COMPOSITIONS,
+        identity,
     )?);
     differ = differ.saturating_add(hold_identity(rt)?);
     differ = differ.saturating_add(hold_converses::<Dwellings>(
         rt,
-        letters_of_directions(),
-        converses_of_directions(),
+        &DIRECTION_LETTERS,
+        &DIRECTION_CONVERSES,
     )?);
     differ = differ.saturating_add(hold_directions(rt)?);
     Ok(differ)
+}
+
+/// The line on all tables and laws.
+fn print_summary(rt: HostRuntime, differ: u32) -> io::Result<()> {
+    if differ == 0 {
+        println!(rt; "all agree")
+    } else {
+        println!(rt; "{differ} differ")
+    }
 }
 
 fn run(rt: HostRuntime) -> anyhow::Result<()> {
@@ -479,15 +497,75 @@ fn run(rt: HostRuntime) -> anyhow::Result<()> {
     differ = differ.saturating_add(try_laws::<Moments>(rt)?);
     differ = differ.saturating_add(try_laws::<Spells>(rt)?);
     differ = differ.saturating_add(try_laws::<Dwellings>(rt)?);
-    if differ == 0 {
-        println!(rt; "all agree")?;
-    } else {
-        println!(rt; "{differ} differ")?;
-    }
+    print_summary(rt, differ)?;
     println!(rt; "figures {} proved", figures::count())?;
     Ok(())
 }
 
 fn main(rt: HostRuntime) -> anyhow::Result<()> {
     run(rt)
+}
+
+#[cfg(test)]
+mod tests {
+    use super::*;
+    use std::test::Fail;
+
+    // The table of the point algebra with one wrong entry: > for < composed with <.
+    static ONE_TURNED: [Entries; 3] = [
+        Entries {
+            letter: "<",
+            entries: &[">", "B", "<"],
+        },
+        Entries {
+            letter: ">",
+            entries: &["B", ">", ">"],
+        },
+        Entries {
+            letter: "=",
+            entries: &["<", ">", "="],
+        },
+    ];
+
+    // The table of the point algebra without the last entry of its first row.
+    static ONE_LOST: [Entries; 3] = [
+        Entries {
+            letter: "<",
+            entries: &["<", "B"],
+        },
+        Entries {
+            letter: ">",
+            entries: &["B", ">", ">"],
+        },
+        Entries {
+            letter: "=",
+            entries: &["<", ">", "="],
+        },
+    ];
+
+    fn differing(rt: HostRuntime, rows: &[Entries]) -> Option<u32> {
+        hold_compositions::<Moments>(rt, &POINT_LETTERS, rows, 0).ok()
+    }
+
+    #[test]
+    fn counts_differences(rt: HostRuntime) -> Result<(), Fail> {
+        assert_eq!(rt; differing(rt, &POINT_COMPOSITIONS), Some(0));
+        assert_eq!(rt; differing(rt, &ONE_TURNED), Some(1));
+        assert_eq!(rt; differing(rt, &ONE_LOST), None, "a row lost an entry");
+        assert_eq!(rt;
+            differing(rt, &POINT_COMPOSITIONS[1..]),
+            None,
+            "a row is lost"
+        );
+        print_summary(rt, 1)?;
+        Ok(())
+    }
+
+    // 3 is no code of a moment, so composed with the identity it gives no relation.
+    #[test]
+    fn counts_failures(rt: HostRuntime) -> Result<(), Fail> {
+        let score = try_row::<Moments>(rt, NONE_TRIED, AlgebraLaw::Identity, 3, 0, 1)?;
+        assert_eq!(rt; (score.stand, score.lacking), (0, 1));
+        Ok(())
+    }
 }

@@ -1,5 +1,4 @@
 // Published converses and compositions, in the notation of the literature.
-ghost use Rattle.std.specs.Prelude.{◌≡◌, length};
 
 /// A letter of the literature and what it stands for: one or more of our relation words, parted by spaces.
 pub(crate) struct Letter(pub(crate) &'static str, pub(crate) &'static str);
@@ -9,7 +8,7 @@ pub(crate) struct Turned(pub(crate) &'static str, pub(crate) &'static str);
 
 /// A row of a table of compositions: the entry in the row of r and the column of s is the composition of r, the relation from the
 /// first item to the second, with s, the relation from the second to the third. The columns are in the order of the rows.
-pub(crate) struct Row {
+pub(crate) struct Entries {
     pub(crate) letter: &'static str,
     pub(crate) entries: &'static [&'static str],
 }
@@ -25,7 +24,7 @@ pub(crate) struct Direction {
 // The point algebra, after Vilain and Kautz, and van Beek.
 
 /// The letters of the point algebra; B is the set of all three relations.
-static POINT_LETTERS: [Letter; 4] = [
+pub(crate) static POINT_LETTERS: [Letter; 4] = [
     Letter("<", "<"),
     Letter(">", ">"),
     Letter("=", "="),
@@ -33,19 +32,23 @@ static POINT_LETTERS: [Letter; 4] = [
 ];
 
 /// The converses of the point algebra.
-static POINT_CONVERSES: [Turned; 3] = [Turned("<", ">"), Turned(">", "<"), Turned("=", "=")];
+pub(crate) static POINT_CONVERSES: [Turned; 3] = [
+    Turned("<", ">"),
+    Turned(">", "<"),
+    Turned("=", "="),
+];
 
 /// The compositions of the point algebra.
-static POINT_COMPOSITIONS: [Row; 3] = [
-    Row {
+pub(crate) static POINT_COMPOSITIONS: [Entries; 3] = [
+    Entries {
         letter: "<",
         entries: &["<", "B", "<"],
     },
-    Row {
+    Entries {
         letter: ">",
         entries: &["B", ">", ">"],
     },
-    Row {
+    Entries {
         letter: "=",
         entries: &["<", ">", "="],
     },
@@ -54,7 +57,7 @@ static POINT_COMPOSITIONS: [Row; 3] = [
 // The interval algebra, after Allen.
 
 /// The letters in which the converses of the interval algebra are given: b is before.
-static INTERVAL_LETTERS: [Letter; 13] = [
+pub(crate) static INTERVAL_LETTERS: [Letter; 13] = [
     Letter("b", "p"),
     Letter("bi", "pi"),
     Letter("o", "o"),
@@ -71,7 +74,7 @@ static INTERVAL_LETTERS: [Letter; 13] = [
 ];
 
 /// The converses of the interval algebra.
-static INTERVAL_CONVERSES: [Turned; 13] = [
+pub(crate) static INTERVAL_CONVERSES: [Turned; 13] = [
     Turned("b", "bi"),
     Turned("bi", "b"),
     Turned("o", "oi"),
@@ -90,7 +93,7 @@ static INTERVAL_CONVERSES: [Turned; 13] = [
 // The cardinal directions, after Frank, and Ligozat.
 
 /// The letters of the cardinal directions.
-static DIRECTION_LETTERS: [Letter; 9] = [
+pub(crate) static DIRECTION_LETTERS: [Letter; 9] = [
     Letter("EQ", "eq"),
     Letter("N", "n"),
     Letter("NE", "ne"),
@@ -103,7 +106,7 @@ static DIRECTION_LETTERS: [Letter; 9] = [
 ];
 
 /// The converses of the cardinal directions.
-static DIRECTION_CONVERSES: [Turned; 9] = [
+pub(crate) static DIRECTION_CONVERSES: [Turned; 9] = [
     Turned("N", "S"),
     Turned("NW", "SE"),
     Turned("W", "E"),
@@ -117,7 +120,7 @@ static DIRECTION_CONVERSES: [Turned; 9] = [
 
 /// The cardinal directions as pairs of relations of the point algebra. The composition of two directions has the directions whose two
 /// parts are each in the composition of the parts.
-static DIRECTIONS: [Direction; 9] = [
+pub(crate) static DIRECTIONS: [Direction; 9] = [
     Direction {
         letter: "EQ",
         eastward: "=",
@@ -164,59 +167,3 @@ static DIRECTIONS: [Direction; 9] = [
         northward: ">",
     },
 ];
-
-/// The letters of the point algebra.
-pub(crate) fn letters_of_points() -> &'static [Letter]
-    ensures { length result.now ≡ 4 }
-{
-    &POINT_LETTERS
-}
-
-/// The converses of the point algebra.
-pub(crate) fn converses_of_points() -> &'static [Turned]
-    ensures { length result.now ≡ 3 }
-{
-    &POINT_CONVERSES
-}
-
-/// The compositions of the point algebra.
-pub(crate) fn compositions_of_points() -> &'static [Row]
-    ensures { length result.now ≡ 3 }
-{
-    &POINT_COMPOSITIONS
-}
-
-/// The letters of the converses of intervals.
-pub(crate) fn letters_of_intervals() -> &'static [Letter]
-    ensures { length result.now ≡ 13 }
-{
-    &INTERVAL_LETTERS
-}
-
-/// The converses of the interval algebra.
-pub(crate) fn converses_of_intervals() -> &'static [Turned]
-    ensures { length result.now ≡ 13 }
-{
-    &INTERVAL_CONVERSES
-}
-
-/// The letters of the cardinal directions.
-pub(crate) fn letters_of_directions() -> &'static [Letter]
-    ensures { length result.now ≡ 9 }
-{
-    &DIRECTION_LETTERS
-}
-
-/// The converses of the cardinal directions.
-pub(crate) fn converses_of_directions() -> &'static [Turned]
-    ensures { length result.now ≡ 9 }
-{
-    &DIRECTION_CONVERSES
-}
-
-/// The cardinal directions as pairs.
-pub(crate) fn all_directions() -> &'static [Direction]
-    ensures { length result.now ≡ 9 }
-{
-    &DIRECTIONS
-}

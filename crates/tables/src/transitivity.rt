@@ -1,10 +1,9 @@
 // The transitivity table of the interval algebra.
-ghost use Rattle.std.specs.Prelude.{◌≡◌, length};
 
-use crate::published::{Letter, Row};
+use crate::published::{Entries, Letter};
 
 /// The letters of Allen, 1983. Beside those of the thirteen relations: dur and con for three relations each, and no info for all.
-static ALLEN_LETTERS: [Letter; 16] = [
+pub(crate) static ALLEN_LETTERS: [Letter; 16] = [
     Letter("=", "eq"),
     Letter("<", "p"),
     Letter(">", "pi"),
@@ -28,8 +27,8 @@ pub(crate) static ALLEN_IDENTITY: &str = "=";
 
 /// The transitivity table of Allen, 1983, for the twelve relations other than the identity. The letter of the column stands beside
 /// each entry.
-static ALLEN_COMPOSITIONS: [Row; 12] = [
-    Row {
+pub(crate) static ALLEN_COMPOSITIONS: [Entries; 12] = [
+    Entries {
         letter: "<",
         entries: &[
             "<", // <
@@ -46,7 +45,7 @@ static ALLEN_COMPOSITIONS: [Row; 12] = [
             "<", // fi
         ],
     },
-    Row {
+    Entries {
         letter: ">",
         entries: &[
             "no info", // <
@@ -63,7 +62,7 @@ static ALLEN_COMPOSITIONS: [Row; 12] = [
             ">", // fi
         ],
     },
-    Row {
+    Entries {
         letter: "d",
         entries: &[
             "<", // <
@@ -80,7 +79,7 @@ static ALLEN_COMPOSITIONS: [Row; 12] = [
             "< o m d s", // fi
         ],
     },
-    Row {
+    Entries {
         letter: "di",
         entries: &[
             "< o m di fi", // <
@@ -97,7 +96,7 @@ static ALLEN_COMPOSITIONS: [Row; 12] = [
             "di", // fi
         ],
     },
-    Row {
+    Entries {
         letter: "o",
         entries: &[
             "<", // <
@@ -114,7 +113,7 @@ static ALLEN_COMPOSITIONS: [Row; 12] = [
             "< o m", // fi
         ],
     },
-    Row {
+    Entries {
         letter: "oi",
         entries: &[
             "< o m di fi", // <
@@ -131,7 +130,7 @@ static ALLEN_COMPOSITIONS: [Row; 12] = [
             "oi di si", // fi
         ],
     },
-    Row {
+    Entries {
         letter: "m",
         entries: &[
             "<", // <
@@ -148,7 +147,7 @@ static ALLEN_COMPOSITIONS: [Row; 12] = [
             "<", // fi
         ],
     },
-    Row {
+    Entries {
         letter: "mi",
         entries: &[
             "< o m di fi", // <
@@ -165,7 +164,7 @@ static ALLEN_COMPOSITIONS: [Row; 12] = [
             "mi", // fi
         ],
     },
-    Row {
+    Entries {
         letter: "s",
         entries: &[
             "<", // <
@@ -182,7 +181,7 @@ static ALLEN_COMPOSITIONS: [Row; 12] = [
             "< m o", // fi
         ],
     },
-    Row {
+    Entries {
         letter: "si",
         entries: &[
             "< o m di fi", // <
@@ -199,7 +198,7 @@ static ALLEN_COMPOSITIONS: [Row; 12] = [
             "di", // fi
         ],
     },
-    Row {
+    Entries {
         letter: "f",
         entries: &[
             "<", // <
@@ -216,7 +215,7 @@ static ALLEN_COMPOSITIONS: [Row; 12] = [
             "f fi =", // fi
         ],
     },
-    Row {
+    Entries {
         letter: "fi",
         entries: &[
             "<", // <
@@ -234,17 +233,3 @@ static ALLEN_COMPOSITIONS: [Row; 12] = [
         ],
     },
 ];
-
-/// Allen's letters.
-pub(crate) fn letters_of_allen() -> &'static [Letter]
-    ensures { length result.now ≡ 16 }
-{
-    &ALLEN_LETTERS
-}
-
-/// Allen's table.
-pub(crate) fn compositions_of_allen() -> &'static [Row]
-    ensures { length result.now ≡ 12 }
-{
-    &ALLEN_COMPOSITIONS
-}
