@@ -74,7 +74,7 @@ pub fn load_body<K: Kind + Notation, T: Tally + TallyLetter>(
     ensures loaded { Loaded result (rows_in (spelled K.Kind.meaning K.Notation.words K.Notation.initial T.TallyLetter.initial) (body (ahead_of spot.old))) spot.old.place (ahead_of spot.old) draft.old.rows.items spot.new.place (ahead_of spot.new) draft.new.rows.items }
 {
     while let Some(line) = spot.next_statement() {
-        placed(spot.place(), enter_line(draft, line))?;
+        placed(spot.place, enter_line(draft, line))?;
     }
     Ok(())
 }

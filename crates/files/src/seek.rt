@@ -21,13 +21,6 @@ fn stray(line: &[u8]) -> LineFault
 }
 
 impl<'a> Spot<'a> {
-    /// The place of the last line read.
-    pub fn place(&self) -> Place
-        ensures { result ≡ self.now.place }
-    {
-        self.place
-    }
-
     // Whether a head has come.
     fn state(&self) -> State
         ensures { result ≡ state_of self.now.place }
