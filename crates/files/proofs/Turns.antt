@@ -17,10 +17,10 @@ use Rattle.files.specs.Files.{Sheet, begun, extended, lines_fault, sheets_in, Be
 use Rattle.files.proofs.Seeking.{at_end, at_head, at_stray}
 
 -- a reader between two sheets
-abbrev between : Place → List (List ℕ) → View
+abbrev pub between : Place → List (List ℕ) → View
 between p ls = record { too_long = false; place = p; ahead = ls; waiting = None }
 
-same : (v : View) → Between v → v ≡ between v.place v.ahead
+pub same : (v : View) → Between v → v ≡ between v.place v.ahead
 same v b =
     ap (λ x. record { too_long = x; place = v.place; ahead = v.ahead; waiting = v.waiting }) b.fits
     ∙ ap (λ x. record { too_long = false; place = v.place; ahead = v.ahead; waiting = x }) b.idle
@@ -44,14 +44,14 @@ abbrev or_else : Option SheetFault → Option SheetFault → Option SheetFault
 or_else (Some f) o = Some f
 or_else None o = o
 
-abbrev Answer : Type 0
+abbrev pub Answer : Type 0
 Answer = Result (Option Head) SheetFault
 
 -- different answers are not the same
-fault_is_none : {A : Type 0} (f : SheetFault) (o : Option Head) (x y : A) → ◌≡◌ {A = Answer} (Err f) (Ok o) → x ≡ y
+pub fault_is_none : {A : Type 0} (f : SheetFault) (o : Option Head) (x y : A) → ◌≡◌ {A = Answer} (Err f) (Ok o) → x ≡ y
 fault_is_none f o x y z = cc
 
-head_is_none : {A : Type 0} (h : Head) (x y : A) → ◌≡◌ {A = Answer} (Ok (Some h)) (Ok None) → x ≡ y
+pub head_is_none : {A : Type 0} (h : Head) (x y : A) → ◌≡◌ {A = Answer} (Ok (Some h)) (Ok None) → x ≡ y
 head_is_none h x y z = cc
 
 same_head : (g h : Head) → ◌≡◌ {A = Answer} (Ok (Some g)) (Ok (Some h)) → g ≡ h
@@ -139,7 +139,7 @@ own_load : (s : Spelling) (p : Place) (ls : List (List ℕ)) (h : Head) → fits
 own_load s p ls h own = rw own refl
 
 -- no head has come
-none_begun : (p : Place) (l : List ℕ) (ls : List (List ℕ)) → is_head l ≡ false → (before (l ∷ ls) == 0 || p.sheet == 0) ≡ true → p.sheet ≡ 0
+pub none_begun : (p : Place) (l : List ℕ) (ls : List (List ℕ)) → is_head l ≡ false → (before (l ∷ ls) == 0 || p.sheet == 0) ≡ true → p.sheet ≡ 0
 none_begun p l ls n b = let c = rw n at b in grind (arith, nat_tests)
 
 module _ (spell : Head → Spelling) (own : (h : Head) → fits_draft (spell h) h ≡ true) where
