@@ -31,4 +31,4 @@ pub loop-word-init : goal.loop-word-init
 loop-word-init g c =
     let code = code_of g.K.Kind.meaning.codes g.K.Notation.words in
     some_words code c.args.field.now (false-eqb _ 0 c.if-is_empty.ensures)
-    ∙ ap (λ ws. given (all_words code ws) (with_words code 0 ws) NotWord) (sym c.new-words.ensures)
+    ∙ ap (λ ws. given (all_words code ws) (with_words code 0 ws) NotWord) (sym c.new-words.ensures.parts)
