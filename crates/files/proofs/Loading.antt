@@ -10,7 +10,7 @@ use Rattle.files.specs.declared.fault.LineFault.TheVariants.{Draft}
 use Rattle.files.specs.declared.fault.At.{At}
 use Rattle.files.specs.declared.fault.Place.{Place}
 use Rattle.files.specs.declared.fault.SheetFault.{SheetFault}
-use Rattle.files.specs.Faults.{first, answered, placed_at}
+use Rattle.files.specs.Faults.{first, answered}
 use Rattle.files.specs.Drafts.{refused_at, refused_line, line_fault, row_in}
 use Rattle.files.specs.Heads.{is_head}
 use Rattle.files.specs.Sheets.{before, onward}
@@ -106,10 +106,10 @@ rows_read s items p ls rows q ms now g =
 
 -- where a load that is refused at a line has come to
 pub stopped : (s : Spelling) (items : ℕ) (p : Place) (ls : List (List ℕ)) (rows : List Row) (q : Place) (ms ns : List (List ℕ)) (now : List Row) (l : List ℕ) → Loads s items p ls rows q ms now → is_head l ≡ false → ms ≡ l ∷ ns
-    → (new : List Row) (f : SheetFault) (q' : Place) → new ≡ now → q' ≡ onward q → f.place ≡ q' → Loaded (Err f) (rows_in s (body ls)) p ls rows q' ns new
-stopped s items p ls rows q ms ns now l g h e new f q' same on at =
+    → (new : List Row) (q' : Place) (f : LineFault) → new ≡ now → q' ≡ onward q → Loaded (Err (record { place = q'; fault = f })) (rows_in s (body ls)) p ls rows q' ns new
+stopped s items p ls rows q ms ns now l g h e new q' f same on =
     let k : q.line - p.line ≡ q'.line - p.line - 1 = omega (arith, ap (λ x. x.line) on) in (
-      sym at,
+      refl,
       one_read s items p ls rows q ms ns now l g h e ∙ ap (λ x. drop (x.line - p.line) ls) (sym on),
       same ∙ rows_read s items p ls rows q ms now g ∙ ap (λ n. rows ++ take n (rows_in s (body ls))) k,
     )
@@ -128,11 +128,3 @@ module _ (s : Spelling) (items : ℕ) (p : Place) (ls : List (List ℕ)) (rows :
 
   pub body_rest : ms ≡ drop (before ls) ls
   body_rest = ap (λ k. drop k ms) (sym e) ∙ g.rest
-
-pub placed_ok : {T : Type 0} (p : Place) (x : T) (r : Result T LineFault) → Ok x ≡ placed_at p r → r ≡ Ok x
-placed_ok p x (Ok y) e = cc
-placed_ok p x (Err g) e = cc
-
-pub placed_err : {T : Type 0} (p : Place) (f : At Place LineFault) (r : Result T LineFault) → Err f ≡ placed_at p r → (r ≡ Err f.fault) × (f.place ≡ p)
-placed_err p f (Ok y) e = let z : ◌≡◌ {A = ℕ} 0 1 = cc in absurd (omega arith)
-placed_err p f (Err g) e = let s : f ≡ record { place = p; fault = g } = cc in (sym (ap (λ x. Err x.fault) s), ap (λ x. x.place) s)
