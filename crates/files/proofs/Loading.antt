@@ -1,7 +1,6 @@
 -- A statement's line, taken by a draft, and the statements one after another.
-use Rattle.std.proofs.Common.{◌≡◌, ℕ, suc, ◌+◌, ◌-◌, ◌≤◌, false, cond, List, [], ◌∷◌, ◌++◌, length, take, drop, Some, None, Ok, Err, Option, Result, sym, refl, ap, ◌∙◌, append_assoc, append-nil, arith, length-append}
+use Rattle.std.proofs.Common.{◌≡◌, ℕ, suc, ◌+◌, ◌-◌, ◌≤◌, false, List, [], ◌∷◌, ◌++◌, length, take, drop, Some, None, Ok, Err, Option, sym, refl, ap, ◌∙◌, append_assoc, append-nil, arith, length-append}
 use Rattle.std.proofs.Math.Seq.{take-append_seam, take-append-add}
-use Rattle.std.proofs.lemmas.List.{drop-drop}
 use Rattle.rules.specs.declared.row.Row.{Row}
 use Rattle.statements.specs.declared.entry.Entry.{Entry}
 use Rattle.statements.specs.declared.fault.Fault.{Fault}
@@ -9,13 +8,13 @@ use Rattle.files.specs.declared.fault.LineFault.{LineFault}
 use Rattle.files.specs.declared.fault.LineFault.TheVariants.{Draft}
 use Rattle.files.specs.declared.fault.At.{At}
 use Rattle.files.specs.declared.fault.Place.{Place}
-use Rattle.files.specs.declared.fault.SheetFault.{SheetFault}
 use Rattle.files.specs.Faults.{first, answered}
 use Rattle.files.specs.Drafts.{refused_at, refused_line, line_fault, row_in}
 use Rattle.files.specs.Heads.{is_head}
 use Rattle.files.specs.Sheets.{before, onward}
 use Rattle.files.specs.Loads.{body, body_fault, rows_in, Loaded}
 use Rattle.files.specs.Words.{Spelling}
+use Rattle.files.proofs.Seeking.{before_line, one_read}
 
 -- the line itself is unfit
 pub line_unfit : (a b : Option LineFault) (e : Entry) (f : LineFault) → Err f ≡ answered a e → Err f ≡ answered (first (a ∷ b ∷ [])) (tt {0})
@@ -65,18 +64,13 @@ unfit (Some g) f h = cc
 unfit None f h = cc
 
 before_more : (l : List ℕ) (ns ms : List (List ℕ)) → is_head l ≡ false → ms ≡ l ∷ ns → before ms ≡ suc (before ns)
-before_more l ns ms h e = ap before e ∙ ap (λ t. cond t 0 (suc (before ns))) h
+before_more l ns ms h e = ap before e ∙ before_line l ns h
 
 body_more : (l : List ℕ) (ns ms : List (List ℕ)) → is_head l ≡ false → ms ≡ l ∷ ns → body ms ≡ l ∷ body ns
 body_more l ns ms h e = ap (λ k. take k ms) (before_more l ns ms h e) ∙ ap (take (suc (before ns))) e
 
 module _ (s : Spelling) (items : ℕ) (p : Place) (ls : List (List ℕ)) (rows : List Row) (q : Place) (ms ns : List (List ℕ)) (now : List Row) (l : List ℕ)
     (g : Loads s items p ls rows q ms now) (h : is_head l ≡ false) (e : ms ≡ l ∷ ns) where
-  one_read : ns ≡ drop (q.line + 1 - p.line) ls
-  one_read =
-      let k : q.line - p.line + 1 ≡ q.line + 1 - p.line = omega (arith, g.from) in
-      ap (drop 1) (sym e) ∙ ap (drop 1) g.read ∙ drop-drop 1 (q.line - p.line) ls ∙ ap (λ n. drop n ls) k
-
   pub one_entered : (new : List Row) (q' : Place) → Ok (tt {0}) ≡ answered (line_fault s items now l) (tt {0}) → new ≡ now ++ (row_in s l ∷ []) → q' ≡ onward q → Loads s items p ls rows q' ns new
   one_entered new q' good add on = record {
     fault = ap (λ x. body_fault s items x new (body ns)) on ∙ ap (λ x. body_fault s items (onward q) x (body ns)) add
@@ -88,7 +82,7 @@ module _ (s : Spelling) (items : ℕ) (p : Place) (ls : List (List ℕ)) (rows :
     line = omega (arith, ap (λ x. x.line) on, before_more l ns ms h e, g.line);
     sheet = ap (λ x. x.sheet) on ∙ g.sheet;
     from = omega (arith, ap (λ x. x.line) on, g.from);
-    read = one_read ∙ ap (λ x. drop (x.line - p.line) ls) (sym on);
+    read = one_read p q ls ms ns l g.from g.read e ∙ ap (λ x. drop (x.line - p.line) ls) (sym on);
     many = omega (arith, ap length add, length-append now (row_in s l ∷ []), ap (λ x. x.line) on, g.from, g.many);
   }
 
@@ -105,12 +99,12 @@ rows_read s items p ls rows q ms now g =
     ∙ take-append-add rows (rows_in s (body ls)) (q.line - p.line)
 
 -- where a load that is refused at a line has come to
-pub stopped : (s : Spelling) (items : ℕ) (p : Place) (ls : List (List ℕ)) (rows : List Row) (q : Place) (ms ns : List (List ℕ)) (now : List Row) (l : List ℕ) → Loads s items p ls rows q ms now → is_head l ≡ false → ms ≡ l ∷ ns
+pub stopped : (s : Spelling) (items : ℕ) (p : Place) (ls : List (List ℕ)) (rows : List Row) (q : Place) (ms ns : List (List ℕ)) (now : List Row) (l : List ℕ) → Loads s items p ls rows q ms now → ms ≡ l ∷ ns
     → (new : List Row) (q' : Place) (f : LineFault) → new ≡ now → q' ≡ onward q → Loaded (Err (record { place = q'; fault = f })) (rows_in s (body ls)) p ls rows q' ns new
-stopped s items p ls rows q ms ns now l g h e new q' f same on =
+stopped s items p ls rows q ms ns now l g e new q' f same on =
     let k : q.line - p.line ≡ q'.line - p.line - 1 = omega (arith, ap (λ x. x.line) on) in (
       refl,
-      one_read s items p ls rows q ms ns now l g h e ∙ ap (λ x. drop (x.line - p.line) ls) (sym on),
+      one_read p q ls ms ns l g.from g.read e ∙ ap (λ x. drop (x.line - p.line) ls) (sym on),
       same ∙ rows_read s items p ls rows q ms now g ∙ ap (λ n. rows ++ take n (rows_in s (body ls))) k,
     )
 

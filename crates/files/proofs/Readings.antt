@@ -1,5 +1,5 @@
 -- A whole reading meets the first fault of its file, and loads the sheets before it.
-use Rattle.std.proofs.Common.{◌≡◌, ℕ, zero, suc, ◌+◌, ◌-◌, ◌<◌, true, false, cond, List, [], ◌∷◌, ◌++◌, length, take, drop, Some, None, Ok, Err, Option, Result, sym, refl, ap, ◌∙◌, subst, ⊎_elim, arith, ◌==◌, ◌||◌, length-drop, add-one}
+use Rattle.std.proofs.Common.{◌≡◌, ℕ, zero, suc, ◌+◌, ◌-◌, ◌<◌, true, false, List, [], ◌∷◌, ◌++◌, length, take, Some, None, Ok, Err, Option, Result, sym, refl, ap, ◌∙◌, subst, ⊎_elim, arith, ◌==◌, ◌||◌, length-drop, add-one}
 use Rattle.std.proofs.lemmas.Bool.{cases_Bool}
 use Rattle.rules.specs.declared.row.Row.{Row}
 use Rattle.files.specs.declared.fault.LineFault.{LineFault}
@@ -10,15 +10,14 @@ use Rattle.files.specs.declared.head.Head.{Head}
 use Rattle.files.specs.Drafts.{line_fault, row_in}
 use Rattle.files.specs.Heads.{is_head, head_in}
 use Rattle.files.specs.Loads.{body, body_fault, rows_in}
-use Rattle.files.specs.Parts.{lines}
 use Rattle.files.specs.Sheets.{before, onward, head_place, located, nowhere}
 use Rattle.files.specs.Views.{View, Contents, too_long, start_of, fits_draft, head_answer, head_move, head_after, load_fault, load_move, load_after, load_contents, loaded_rows}
 use Rattle.files.specs.Words.{Spelling}
-use Rattle.files.specs.Files.{Sheet, Between, rest_fault, rest_sheets, after_load, after_head, Takes, Reading, ended, then_load, then_head, drafted, read_all, sheets_before, Own, file_fault, sheets_of, WellFormed, ReadsWith, ReadsFile}
+use Rattle.files.specs.Files.{Between, rest_fault, rest_sheets, after_load, after_head, Takes, Reading, ended, then_load, then_head, drafted, read_all, sheets_before, Own, file_fault, sheets_of, ReadsWith, ReadsFile}
 use Rattle.files.proofs.Parting.{lines_le}
 use Rattle.files.proofs.Seeking.{at_end, at_head, at_stray}
 use Rattle.files.proofs.Standing.{some_ahead}
-use Rattle.files.proofs.Turns.{between, same, Answer, fault_is_none, head_is_none, none_begun, in_turn, between_again, sheet_next, sheet_end, from_start}
+use Rattle.files.proofs.Turns.{between, same, Answer, fault_is_none, none_begun, in_turn, between_again, sheet_next, sheet_end, from_start}
 
 -- what was read from v on
 record Told (spell : Head → Spelling) (v : View) (r : Reading) : Type 0 where
@@ -76,9 +75,6 @@ module _ (s : Spelling) (w : View) (h : Head) (fits : w.too_long ≡ false) (wai
 module _ (spell : Head → Spelling) (had : Head → Contents) (own : Own spell) (v : View) (b : Between v) where
   abbrev w : View
   w = head_after v
-
-  turn : Answer → Option SheetFault
-  turn a = after_head spell w a
 
   told_err : (f : SheetFault) → head_answer v ≡ Err f → Told spell v (ended (Some f))
   told_err f e = record {

@@ -24,6 +24,13 @@ pub record Same (p : Place) (ls : List (List ℕ)) (q : Place) (ms : List (List 
   pub from : p.line ≤ q.line
   pub read : ms ≡ drop (q.line - p.line) ls
 
+-- by whether the next line is a head
+pub before_head : (l : List ℕ) (ls : List (List ℕ)) → is_head l ≡ true → before (l ∷ ls) ≡ 0
+before_head l ls y = ap (λ t. cond t 0 (suc (before ls))) y
+
+pub before_line : (l : List ℕ) (ls : List (List ℕ)) → is_head l ≡ false → before (l ∷ ls) ≡ suc (before ls)
+before_line l ls n = ap (λ t. cond t 0 (suc (before ls))) n
+
 pub at_end : (p : Place) → next_head p [] ≡ Ok None
 at_end p = grind (arith, nat_tests)
 
@@ -50,7 +57,7 @@ at_next p l ls k z =
 
 pub onward_same : (p : Place) (l : List ℕ) (ls : List (List ℕ)) → is_head l ≡ false → (p.sheet ≡ 0 → ⊥) → Same p (l ∷ ls) (onward p) ls
 onward_same p l ls h z =
-    let b : before (l ∷ ls) ≡ suc (before ls) = ap (λ t. cond t 0 (suc (before ls))) h in
+    let b = before_line l ls h in
     let d : before (l ∷ ls) + 1 ≡ suc (before ls + 1) = omega (arith, b) in
     let o : 1 ≡ p.line + 1 - p.line = omega arith in
     record {
@@ -64,12 +71,12 @@ onward_same p l ls h z =
     }
 
 -- one line is read
-pub one_read : (p q : Place) (ls ms ns : List (List ℕ)) (l : List ℕ) → Same p ls q ms → ms ≡ l ∷ ns → ns ≡ drop (q.line + 1 - p.line) ls
-one_read p q ls ms ns l s e =
-    let k : q.line - p.line + 1 ≡ q.line + 1 - p.line = omega (arith, s.from) in
-    ap (drop 1) (sym e) ∙ ap (drop 1) s.read ∙ drop-drop 1 (q.line - p.line) ls ∙ ap (λ n. drop n ls) k
+pub one_read : (p q : Place) (ls ms ns : List (List ℕ)) (l : List ℕ) → p.line ≤ q.line → ms ≡ drop (q.line - p.line) ls → ms ≡ l ∷ ns → ns ≡ drop (q.line + 1 - p.line) ls
+one_read p q ls ms ns l f r e =
+    let k : q.line - p.line + 1 ≡ q.line + 1 - p.line = omega (arith, f) in
+    ap (drop 1) (sym e) ∙ ap (drop 1) r ∙ drop-drop 1 (q.line - p.line) ls ∙ ap (λ n. drop n ls) k
 
--- and passed
+-- and it is passed
 pub passed : (p q : Place) (ls ms ns : List (List ℕ)) (l : List ℕ) → Same p ls q ms → ms ≡ l ∷ ns → is_head l ≡ false → (q.sheet ≡ 0 → ⊥) → Same p ls (onward q) ns
 passed p q ls ms ns l s e h z =
     let o = subst (λ xs. Same q xs (onward q) ns) (sym e) (onward_same q l ns h z) in
@@ -80,7 +87,7 @@ passed p q ls ms ns l s e h z =
       end = o.end ∙ s.end;
       sheet = o.sheet ∙ s.sheet;
       from = omega (arith, s.from);
-      read = one_read p q ls ms ns l s e;
+      read = one_read p q ls ms ns l s.from s.read e;
     }
 
 -- a head is come to
@@ -92,7 +99,7 @@ module _ (p q : Place) (ls ms ns : List (List ℕ)) (l : List ℕ) (s : Same p l
       ∙ sym (at_head q l ns h) ∙ ap (next_head q) (sym e) ∙ s.answer
 
   none_before : before ms ≡ 0
-  none_before = ap before e ∙ ap (λ t. cond t 0 (suc (before ns))) h
+  none_before = ap before e ∙ before_head l ns h
 
   pub place_of_head : record { sheet = q.sheet + 1; line = q.line + 1 } ≡ head_place p (before ls)
   place_of_head =

@@ -1,4 +1,4 @@
--- Sets of words: by whether the field is empty, and that they have only codes of the kind.
+-- Sets of words: by whether the field is empty, and that they have just the codes of the words.
 use Rattle.std.proofs.Common.{◌≡◌, ℕ, ◌^◌, ◌<◌, Bool, true, false, cond, eqb, ltb, ◌||◌, List, [], ◌∷◌, length, Ok, Some, None, Option, Result, IfOk, sym, refl, ap, ◌∙◌, subst, inl, inr, ◌⊎◌, ⊎_elim, Decides, zero, suc, arith, ltb-true}
 use lib.Bits.{bit_or, or_lt}
 use Rattle.std.specs.List.{Any}

@@ -11,6 +11,7 @@ use Rattle.files.specs.Sheets.{before, located}
 use Rattle.files.specs.Words.{Spelling}
 use Rattle.files.specs.Views.{View, lines_of, head_answer, head_move, head_after, load_fault, load_move, load_after}
 use Rattle.files.specs.Standing.{heads, Stands}
+use Rattle.files.proofs.Seeking.{before_head, before_line}
 
 -- by whether a line is a head
 heads_yes : (l : List ℕ) (ls : List (List ℕ)) → is_head l ≡ true → heads (l ∷ ls) ≡ suc (heads ls)
@@ -18,12 +19,6 @@ heads_yes l ls h = ap (λ t. cond t (suc (heads ls)) (heads ls)) h
 
 heads_no : (l : List ℕ) (ls : List (List ℕ)) → is_head l ≡ false → heads (l ∷ ls) ≡ heads ls
 heads_no l ls h = ap (λ t. cond t (suc (heads ls)) (heads ls)) h
-
-before_yes : (l : List ℕ) (ls : List (List ℕ)) → is_head l ≡ true → before (l ∷ ls) ≡ 0
-before_yes l ls h = ap (λ t. cond t 0 (suc (before ls))) h
-
-before_no : (l : List ℕ) (ls : List (List ℕ)) → is_head l ≡ false → before (l ∷ ls) ≡ suc (before ls)
-before_no l ls h = ap (λ t. cond t 0 (suc (before ls))) h
 
 heads_append : (xs ys : List (List ℕ)) → heads (xs ++ ys) ≡ heads xs + heads ys
 heads_append [] ys = sym (zero-add (heads ys))
@@ -42,8 +37,8 @@ pub heads_before : (ls : List (List ℕ)) → heads (take (before ls) ls) ≡ 0
 heads_before [] = refl
 heads_before (l ∷ ls) =
     ⊎_elim
-    (λ h. ap (λ k. heads (take k (l ∷ ls))) (before_yes l ls h))
-    (λ h. ap (λ k. heads (take k (l ∷ ls))) (before_no l ls h) ∙ heads_no l (take (before ls) ls) h ∙ heads_before ls)
+    (λ h. ap (λ k. heads (take k (l ∷ ls))) (before_head l ls h))
+    (λ h. ap (λ k. heads (take k (l ∷ ls))) (before_line l ls h) ∙ heads_no l (take (before ls) ls) h ∙ heads_before ls)
     (cases_Bool (is_head l))
 
 -- and it is one
@@ -51,8 +46,8 @@ heads_through : (ls : List (List ℕ)) → before ls < length ls → heads (take
 heads_through [] b = absurd (omega arith)
 heads_through (l ∷ ls) b =
     ⊎_elim
-    (λ h. ap (λ k. heads (take (suc k) (l ∷ ls))) (before_yes l ls h) ∙ heads_yes l [] h)
-    (λ h. ap (λ k. heads (take (suc k) (l ∷ ls))) (before_no l ls h) ∙ heads_no l (take (suc (before ls)) ls) h ∙ heads_through ls (omega (arith, before_no l ls h)))
+    (λ h. ap (λ k. heads (take (suc k) (l ∷ ls))) (before_head l ls h) ∙ heads_yes l [] h)
+    (λ h. ap (λ k. heads (take (suc k) (l ∷ ls))) (before_line l ls h) ∙ heads_no l (take (suc (before ls)) ls) h ∙ heads_through ls (omega (arith, before_line l ls h)))
     (cases_Bool (is_head l))
 
 -- k lines on

@@ -104,7 +104,7 @@ pub record Reading : Type 0 where
   pub sheets : List Sheet
   pub fault : Option SheetFault
 
--- nothing more is read
+-- the reading is at its end
 abbrev pub ended : Option SheetFault → Reading
 ended o = record { sheets = []; fault = o }
 
@@ -123,8 +123,8 @@ then_head load (Ok (Some h)) = load h
 abbrev pub drafted : Head → Contents → Sheet
 drafted h c = record { head = h; rows = c.rows }
 
--- A whole reading from v on, of at most n heads. The reader is asked for a head, loads its statements into a draft of its kind and tally,
--- which had anything, and is asked for the next. The reading ends at the first refusal, or where there is no head.
+-- A whole reading from v on, of at most n heads. The reader is asked for a head, and loads its statements into a draft of its kind and
+-- tally, which has `had` before; and so on, until it is refused, or there is no head.
 abbrev pub read_all : (Head → Spelling) → (Head → Contents) → ℕ → View → Reading
 read_all spell had zero v = ended None
 read_all spell had (suc n) v = then_head
@@ -147,12 +147,12 @@ pub record ReadsWith (spell : Head → Spelling) (had : Head → Contents) (file
   pub loaded : (read_all spell had (length file + 1) v).sheets ≡ sheets_before (file_fault spell file) (sheets_of spell file)
   pub whole : WellFormed spell file → read_all spell had (length file + 1) v ≡ record { sheets = sheets_of spell file; fault = None }
 
--- So it reads however heads are written, as their own letters say, and whatever the drafts had.
+-- So it reads with any spelling that is its heads' own, and whatever the drafts had.
 abbrev pub ReadsFile : List ℕ → View → Type 0
 ReadsFile file v = (spell : Head → Spelling) (had : Head → Contents) → Own spell → ReadsWith spell had file v
 
--- A reader that is asked for each head in turn, and each time loads it into a draft of its kind and tally, meets the first fault of the
--- file as its first refusal, and loads the sheets that the file stands for.
+-- The same, turn by turn: how a reader that is asked for a head, and then loads it into a draft of its kind and tally, goes through the
+-- first fault and the sheets of what is still to come.
 pub record ReadsInTurn : Type 0 where
   -- it begins between two sheets, with the whole file to come
   pub start : (file : List ℕ) → too_long file ≡ false → Between (start_of file)

@@ -1,7 +1,7 @@
 // What holds of a reader over all its calls.
 ghost use Rattle.files.specs.Files.{ReadsInTurn};
 
-/// A reader that loads each sheet in turn meets the first fault of its file, and loads the sheets that the file stands for.
+/// Each turn of a reader, the call for a head and the load of its sheet, takes the next sheet of its file, or meets the first fault.
 pub fn reader_reads()
     ensures { ReadsInTurn }
 {}

@@ -64,7 +64,7 @@ fn enter_line<K: Kind + Notation, T: Tally + TallyLetter>(
     Ok(())
 }
 
-/// Enters the statements up to the next head.
+/// Enters the statements up to the next head. Refused, it stands past the line that the fault is at, and has entered those before it.
 pub fn load_body<K: Kind + Notation, T: Tally + TallyLetter>(
     spot: &mut Spot,
     draft: &mut Draft<K, T>,

@@ -50,7 +50,7 @@ impl<'a> Spot<'a> {
         }
     }
 
-    /// Passes over statements, once a head has come, to the next head.
+    /// Passes over statements, once a head has come, to the next head. Refused, it stands past the line that the fault is at.
     pub fn find_head(&mut self) -> Result<Option<Head>, SheetFault>
         ensures answer { result ≡ next_head self.old.place (ahead_of self.old) }
         ensures sized { IfOk result (λ o. IfSome o (λ h. between 1 12 h.size ≡ true)) }

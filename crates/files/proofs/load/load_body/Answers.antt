@@ -35,4 +35,4 @@ returns-in-Err-clause-loaded g c =
     let s = spelled g.K.Kind.meaning g.K.Notation.words g.K.Notation.initial g.T.TallyLetter.initial in
     stopped s c.args.draft.now.items c.args.spot.now.place (lines c.args.spot.now.ahead.rest.now) c.args.draft.now.rows.items
     c.loop-line.spot.place (lines c.loop-line.spot.ahead.rest.now) (lines c.next_statement.new.self.ahead.rest.now) c.loop-line.draft.rows.items c.in-Some.line.now
-    c.loop-line.invariant.0 c.in-Some.ensures.0 c.in-Some.ensures.1 _ _ c.in-Err.fault c.in-Err.ensures.entered.1 c.in-Some.ensures.2
+    c.loop-line.invariant.0 c.in-Some.ensures.1 _ _ c.in-Err.fault c.in-Err.ensures.entered.1 c.in-Some.ensures.2

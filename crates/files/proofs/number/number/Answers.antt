@@ -1,6 +1,5 @@
-use Rattle.std.proofs.Common.{◌≡◌, ℕ, Ok, Err, Result, sym, arith, rules}
+use Rattle.std.proofs.Common.{◌≡◌, Ok, Err, sym, arith, rules}
 use Rattle.std.proofs.lemmas.Bool.Decides.{nat_tests}
-use Rattle.files.specs.declared.fault.FieldFault.{FieldFault}
 use Rattle.files.specs.declared.fault.FieldFault.TheVariants.{NotNumber}
 use Rattle.files.specs.Numbers.{is_number, number_in}
 use Rattle.files.proofs.Digits.{just_zero, as_written}
