@@ -5,3 +5,4 @@ pub mod Seeking
 pub mod Standing
 pub mod Loading
 pub mod Turns
+pub mod Readings

@@ -1,5 +1,6 @@
 -- A statement's line, taken by a draft, and the statements one after another.
-use Rattle.std.proofs.Common.{◌≡◌, ℕ, suc, ◌+◌, false, cond, List, [], ◌∷◌, ◌++◌, take, drop, Some, None, Ok, Err, Option, Result, sym, refl, ap, ◌∙◌, append_assoc, append-nil, arith}
+use Rattle.std.proofs.Common.{◌≡◌, ℕ, suc, ◌+◌, ◌-◌, ◌≤◌, false, List, [], ◌∷◌, ◌++◌, length, take, drop, Some, None, Ok, Err, Option, sym, refl, ap, ◌∙◌, append_assoc, append-nil, arith, length-append}
+use Rattle.std.proofs.Math.Seq.{take-append_seam, take-append-add}
 use Rattle.rules.specs.declared.row.Row.{Row}
 use Rattle.statements.specs.declared.entry.Entry.{Entry}
 use Rattle.statements.specs.declared.fault.Fault.{Fault}
@@ -7,12 +8,13 @@ use Rattle.files.specs.declared.fault.LineFault.{LineFault}
 use Rattle.files.specs.declared.fault.LineFault.TheVariants.{Draft}
 use Rattle.files.specs.declared.fault.At.{At}
 use Rattle.files.specs.declared.fault.Place.{Place}
-use Rattle.files.specs.Faults.{first, answered, placed_at}
+use Rattle.files.specs.Faults.{first, answered}
 use Rattle.files.specs.Drafts.{refused_at, refused_line, line_fault, row_in}
 use Rattle.files.specs.Heads.{is_head}
 use Rattle.files.specs.Sheets.{before, onward}
-use Rattle.files.specs.Loads.{body, body_fault, rows_in}
+use Rattle.files.specs.Loads.{body, body_fault, rows_in, Loaded}
 use Rattle.files.specs.Words.{Spelling}
+use Rattle.files.proofs.Seeking.{before_line, one_read}
 
 -- the line itself is unfit
 pub line_unfit : (a b : Option LineFault) (e : Entry) (f : LineFault) → Err f ≡ answered a e → Err f ≡ answered (first (a ∷ b ∷ [])) (tt {0})
@@ -49,6 +51,9 @@ pub record Loads (s : Spelling) (items : ℕ) (p : Place) (ls : List (List ℕ))
   pub rest : drop (before ms) ms ≡ drop (before ls) ls
   pub line : q.line + before ms ≡ p.line + before ls
   pub sheet : q.sheet ≡ p.sheet
+  pub from : p.line ≤ q.line
+  pub read : ms ≡ drop (q.line - p.line) ls
+  pub many : length now ≡ length rows + (q.line - p.line)
 
 fit : {F : Type 0} (o : Option F) → Ok (tt {0}) ≡ answered o (tt {0}) → o ≡ None
 fit (Some g) h = cc
@@ -59,7 +64,7 @@ unfit (Some g) f h = cc
 unfit None f h = cc
 
 before_more : (l : List ℕ) (ns ms : List (List ℕ)) → is_head l ≡ false → ms ≡ l ∷ ns → before ms ≡ suc (before ns)
-before_more l ns ms h e = ap before e ∙ ap (λ t. cond t 0 (suc (before ns))) h
+before_more l ns ms h e = ap before e ∙ before_line l ns h
 
 body_more : (l : List ℕ) (ns ms : List (List ℕ)) → is_head l ≡ false → ms ≡ l ∷ ns → body ms ≡ l ∷ body ns
 body_more l ns ms h e = ap (λ k. take k ms) (before_more l ns ms h e) ∙ ap (take (suc (before ns))) e
@@ -76,12 +81,32 @@ module _ (s : Spelling) (items : ℕ) (p : Place) (ls : List (List ℕ)) (rows :
     rest = sym (ap (λ k. drop k ms) (before_more l ns ms h e) ∙ ap (drop (suc (before ns))) e) ∙ g.rest;
     line = omega (arith, ap (λ x. x.line) on, before_more l ns ms h e, g.line);
     sheet = ap (λ x. x.sheet) on ∙ g.sheet;
+    from = omega (arith, ap (λ x. x.line) on, g.from);
+    read = one_read p q ls ms ns l g.from g.read e ∙ ap (λ x. drop (x.line - p.line) ls) (sym on);
+    many = omega (arith, ap length add, length-append now (row_in s l ∷ []), ap (λ x. x.line) on, g.from, g.many);
   }
 
   pub one_refused : (f : LineFault) → Err f ≡ answered (line_fault s items now l) (tt {0}) → body_fault s items p rows (body ls) ≡ Some (record { place = onward q; fault = f })
   one_refused f bad =
       sym g.fault ∙ ap (body_fault s items q now) (body_more l ns ms h e)
       ∙ ap (λ o. elim o [ Some f ↦ Some (record { place = onward q; fault = f }) | None ↦ body_fault s items (onward q) (now ++ (row_in s l ∷ [])) (body ns) ]) (unfit (line_fault s items now l) f bad)
+
+-- the rows now entered are those of the lines read
+rows_read : (s : Spelling) (items : ℕ) (p : Place) (ls : List (List ℕ)) (rows : List Row) (q : Place) (ms : List (List ℕ)) (now : List Row) → Loads s items p ls rows q ms now
+    → now ≡ rows ++ take (q.line - p.line) (rows_in s (body ls))
+rows_read s items p ls rows q ms now g =
+    sym (take-append_seam now (rows_in s (body ms))) ∙ ap (take (length now)) g.all ∙ ap (λ n. take n (rows ++ rows_in s (body ls))) g.many
+    ∙ take-append-add rows (rows_in s (body ls)) (q.line - p.line)
+
+-- where a load that is refused at a line has come to
+pub stopped : (s : Spelling) (items : ℕ) (p : Place) (ls : List (List ℕ)) (rows : List Row) (q : Place) (ms ns : List (List ℕ)) (now : List Row) (l : List ℕ) → Loads s items p ls rows q ms now → ms ≡ l ∷ ns
+    → (new : List Row) (q' : Place) (f : LineFault) → new ≡ now → q' ≡ onward q → Loaded (Err (record { place = q'; fault = f })) (rows_in s (body ls)) p ls rows q' ns new
+stopped s items p ls rows q ms ns now l g e new q' f same on =
+    let k : q.line - p.line ≡ q'.line - p.line - 1 = omega (arith, ap (λ x. x.line) on) in (
+      refl,
+      one_read p q ls ms ns l g.from g.read e ∙ ap (λ x. drop (x.line - p.line) ls) (sym on),
+      same ∙ rows_read s items p ls rows q ms now g ∙ ap (λ n. rows ++ take n (rows_in s (body ls))) k,
+    )
 
 -- no statement is left
 module _ (s : Spelling) (items : ℕ) (p : Place) (ls : List (List ℕ)) (rows : List Row) (q : Place) (ms : List (List ℕ)) (now : List Row)
@@ -97,11 +122,3 @@ module _ (s : Spelling) (items : ℕ) (p : Place) (ls : List (List ℕ)) (rows :
 
   pub body_rest : ms ≡ drop (before ls) ls
   body_rest = ap (λ k. drop k ms) (sym e) ∙ g.rest
-
-pub placed_ok : {T : Type 0} (p : Place) (x : T) (r : Result T LineFault) → Ok x ≡ placed_at p r → r ≡ Ok x
-placed_ok p x (Ok y) e = cc
-placed_ok p x (Err g) e = cc
-
-pub placed_err : {T : Type 0} (p : Place) (f : At Place LineFault) (r : Result T LineFault) → Err f ≡ placed_at p r → (r ≡ Err f.fault) × (f.place ≡ p)
-placed_err p f (Ok y) e = let z : ◌≡◌ {A = ℕ} 0 1 = cc in absurd (omega arith)
-placed_err p f (Err g) e = let s : f ≡ record { place = p; fault = g } = cc in (sym (ap (λ x. Err x.fault) s), ap (λ x. x.place) s)

@@ -1,9 +1,12 @@
 -- A text that is cut at the first place of a byte.
-use Rattle.std.proofs.Common.{◌≡◌, ℕ, zero, suc, ◌+◌, ◌-◌, ◌<◌, ◌≤◌, cond, eqb, List, [], ◌∷◌, ◌++◌, length, get_or, take, drop, Some, None, Option, sym, refl, ap, ◌∙◌, subst, arith, take-append-drop, Bor}
+use Rattle.std.proofs.Common.{◌≡◌, ℕ, zero, suc, ◌+◌, ◌-◌, ◌<◌, ◌≤◌, cond, eqb, List, [], ◌∷◌, ◌++◌, length, get_or, take, drop, Some, None, Option, sym, refl, ap, ◌∙◌, subst, arith, take-append-drop, Bor, All, count_by, false-eqb}
 use native.Mathlib.Nat.{sub-zero}
+use Rattle.std.specs.List.{onto_first, join_with_byte, AllByRecursion}
 use Rattle.std.proofs.lemmas.List.{drop_more, take_rest}
+use Rattle.std.proofs.lemmas.List.Elements.{All-from_recursion}
+use Rattle.std.proofs.lemmas.List.Splits.{join_with_byte-slice_split, length-slice_split}
 use Rattle.std.proofs.lemmas.Bool.{eq-eqb, ne_eqb, cond-true, cond-false, cond_both}
-use Rattle.files.specs.Parts.{on_first, parted, lines, Lacks, Split, left}
+use Rattle.files.specs.Parts.{parted, lines, Lacks, Split, left}
 
 abbrev pub Cut : ℕ → List ℕ → List ℕ → List ℕ → Type 0
 Cut c text front rest = Lacks c front × (text ≡ front ++ (c ∷ rest))
@@ -30,11 +33,11 @@ cut_at c bs n h l e = (
 )
 
 -- f parts a text at the bytes c
-module _ (c : ℕ) (f : List ℕ → List (List ℕ)) (step : (b : ℕ) (bs : List ℕ) → f (b ∷ bs) ≡ cond (eqb b c) ([] ∷ f bs) (on_first b (f bs))) where
+module _ (c : ℕ) (f : List ℕ → List (List ℕ)) (step : (b : ℕ) (bs : List ℕ) → f (b ∷ bs) ≡ cond (eqb b c) ([] ∷ f bs) (onto_first b (f bs))) where
   cut_first : (p rest : List ℕ) → Lacks c p → f (p ++ (c ∷ rest)) ≡ p ∷ f rest
   cut_first [] rest l = step c rest ∙ cond-true _ _ _ (eq-eqb c c refl)
   cut_first (b ∷ bs) rest l =
-      step b (bs ++ (c ∷ rest)) ∙ cond-false _ _ _ (ne_eqb b c l.0) ∙ ap (on_first b) (cut_first bs rest l.1)
+      step b (bs ++ (c ∷ rest)) ∙ cond-false _ _ _ (ne_eqb b c l.0) ∙ ap (onto_first b) (cut_first bs rest l.1)
 
 pub parted_cut : (c : ℕ) (text p rest : List ℕ) → Cut c text p rest → parted c text ≡ p ∷ parted c rest
 parted_cut c text p rest h = ap (parted c) h.1 ∙ cut_first c (parted c) (λ b bs. refl) p rest h.0
@@ -44,14 +47,14 @@ lines_cut text p rest h = ap lines h.1 ∙ cut_first 10 lines (λ b bs. refl) p 
 
 parted_lacks : (c : ℕ) (bs : List ℕ) → Lacks c bs → parted c bs ≡ bs ∷ []
 parted_lacks c [] l = refl
-parted_lacks c (b ∷ bs) l = cond-false _ _ _ (ne_eqb b c l.0) ∙ ap (on_first b) (parted_lacks c bs l.1)
+parted_lacks c (b ∷ bs) l = cond-false _ _ _ (ne_eqb b c l.0) ∙ ap (onto_first b) (parted_lacks c bs l.1)
 
 pub parted_whole : (c : ℕ) (text p : List ℕ) → Whole c text p → parted c text ≡ p ∷ []
 parted_whole c text p h = parted_lacks c text h.0 ∙ ap (λ q. q ∷ []) h.1
 
 lines_lacks : (b : ℕ) (bs : List ℕ) → Lacks 10 (b ∷ bs) → lines (b ∷ bs) ≡ (b ∷ bs) ∷ []
 lines_lacks b [] l = cond-false _ _ _ (ne_eqb b 10 l.0)
-lines_lacks b (b' ∷ bs) l = cond-false _ _ _ (ne_eqb b 10 l.0) ∙ ap (on_first b) (lines_lacks b' bs l.1)
+lines_lacks b (b' ∷ bs) l = cond-false _ _ _ (ne_eqb b 10 l.0) ∙ ap (onto_first b) (lines_lacks b' bs l.1)
 
 pub lines_whole : (text p : List ℕ) → 0 < length text → Whole 10 text p → lines text ≡ p ∷ []
 lines_whole [] p h w = absurd (omega arith)
@@ -76,13 +79,33 @@ line_some text p o r h e = lines_cut text p r.now (subst (Split 10 text p) e h)
 pub line_last : (text p : List ℕ) (o : Option (Bor (List ℕ))) → Split 10 text p o → o ≡ None → (length text ≡ 0 → ⊥) → lines text ≡ p ∷ []
 line_last text p o h e some = lines_whole text p (omega arith) (subst (Split 10 text p) e h)
 
-length_on_first : (b : ℕ) (ls : List (List ℕ)) → length (on_first b ls) ≤ suc (length ls)
-length_on_first b [] = omega arith
-length_on_first b (l ∷ ls) = omega arith
+length-onto_first : (b : ℕ) (ls : List (List ℕ)) → length (onto_first b ls) ≤ suc (length ls)
+length-onto_first b [] = omega arith
+length-onto_first b (l ∷ ls) = omega arith
 
 -- a line has a byte, its line feed or another
 pub lines_le : (bs : List ℕ) → length (lines bs) ≤ length bs
 lines_le [] = omega arith
 lines_le (b ∷ bs) =
-    cond_both (eqb b 10) ([] ∷ lines bs) (on_first b (lines bs)) (λ ls. length ls ≤ suc (length bs))
-    (λ e. omega (arith, lines_le bs)) (λ e. omega (arith, lines_le bs, length_on_first b (lines bs)))
+    cond_both (eqb b 10) ([] ∷ lines bs) (onto_first b (lines bs)) (λ ls. length ls ≤ suc (length bs))
+    (λ e. omega (arith, lines_le bs)) (λ e. omega (arith, lines_le bs, length-onto_first b (lines bs)))
+
+-- no part has the byte that parts them
+onto_first_lacks : (c b : ℕ) (ps : List (List ℕ)) → (b ≡ c → ⊥) → AllByRecursion (Lacks c) ps → AllByRecursion (Lacks c) (onto_first b ps)
+onto_first_lacks c b [] n h = ((n, tt), tt)
+onto_first_lacks c b (p ∷ ps) n h = ((n, h.0), h.1)
+
+parts_lack : (c : ℕ) (bs : List ℕ) → AllByRecursion (Lacks c) (parted c bs)
+parts_lack c [] = (tt, tt)
+parts_lack c (b ∷ bs) =
+    cond_both (eqb b c) ([] ∷ parted c bs) (onto_first b (parted c bs)) (AllByRecursion (Lacks c))
+    (λ e. (tt, parts_lack c bs)) (λ e. onto_first_lacks c b (parted c bs) (false-eqb b c (sym e)) (parts_lack c bs))
+
+pub parts_apart : (c : ℕ) (bs : List ℕ) → All (Lacks c) (parted c bs)
+parts_apart c bs = All-from_recursion (Lacks c) (parted c bs) (parts_lack c bs)
+
+pub parts_joined : (c : ℕ) (bs : List ℕ) → join_with_byte c (parted c bs) ≡ bs
+parts_joined c bs = join_with_byte-slice_split c bs
+
+pub parts_counted : (c : ℕ) (bs : List ℕ) → length (parted c bs) ≡ count_by (λ b. eqb b c) bs + 1
+parts_counted c bs = length-slice_split (λ b. eqb b c) bs

@@ -1,5 +1,5 @@
 -- A reader that is moved on stands where its place says.
-use Rattle.std.proofs.Common.{◌≡◌, ℕ, suc, ◌+◌, ◌<◌, ◌≤◌, Bool, true, false, cond, leb, List, [], ◌∷◌, ◌++◌, length, take, drop, Some, None, Ok, Err, Option, Result, sym, refl, ap, ◌∙◌, ⊎_elim, add-zero, zero-add, arith, take-add}
+use Rattle.std.proofs.Common.{◌≡◌, ℕ, suc, ◌+◌, ◌<◌, ◌≤◌, Bool, true, false, cond, leb, List, [], ◌∷◌, ◌++◌, length, take, drop, Some, None, Ok, Err, Option, Result, sym, refl, ap, ◌∙◌, subst, ⊎_elim, add-zero, zero-add, arith, take-add}
 use Rattle.std.proofs.lemmas.List.{drop-drop, drop_all, take_all}
 use Rattle.std.proofs.lemmas.Bool.{cases_Bool, leb-true, leb-false}
 use Rattle.files.specs.declared.fault.LineFault.{LineFault}
@@ -11,6 +11,7 @@ use Rattle.files.specs.Sheets.{before, located}
 use Rattle.files.specs.Words.{Spelling}
 use Rattle.files.specs.Views.{View, lines_of, head_answer, head_move, head_after, load_fault, load_move, load_after}
 use Rattle.files.specs.Standing.{heads, Stands}
+use Rattle.files.proofs.Seeking.{before_head, before_line}
 
 -- by whether a line is a head
 heads_yes : (l : List ℕ) (ls : List (List ℕ)) → is_head l ≡ true → heads (l ∷ ls) ≡ suc (heads ls)
@@ -18,12 +19,6 @@ heads_yes l ls h = ap (λ t. cond t (suc (heads ls)) (heads ls)) h
 
 heads_no : (l : List ℕ) (ls : List (List ℕ)) → is_head l ≡ false → heads (l ∷ ls) ≡ heads ls
 heads_no l ls h = ap (λ t. cond t (suc (heads ls)) (heads ls)) h
-
-before_yes : (l : List ℕ) (ls : List (List ℕ)) → is_head l ≡ true → before (l ∷ ls) ≡ 0
-before_yes l ls h = ap (λ t. cond t 0 (suc (before ls))) h
-
-before_no : (l : List ℕ) (ls : List (List ℕ)) → is_head l ≡ false → before (l ∷ ls) ≡ suc (before ls)
-before_no l ls h = ap (λ t. cond t 0 (suc (before ls))) h
 
 heads_append : (xs ys : List (List ℕ)) → heads (xs ++ ys) ≡ heads xs + heads ys
 heads_append [] ys = sym (zero-add (heads ys))
@@ -42,8 +37,8 @@ pub heads_before : (ls : List (List ℕ)) → heads (take (before ls) ls) ≡ 0
 heads_before [] = refl
 heads_before (l ∷ ls) =
     ⊎_elim
-    (λ h. ap (λ k. heads (take k (l ∷ ls))) (before_yes l ls h))
-    (λ h. ap (λ k. heads (take k (l ∷ ls))) (before_no l ls h) ∙ heads_no l (take (before ls) ls) h ∙ heads_before ls)
+    (λ h. ap (λ k. heads (take k (l ∷ ls))) (before_head l ls h))
+    (λ h. ap (λ k. heads (take k (l ∷ ls))) (before_line l ls h) ∙ heads_no l (take (before ls) ls) h ∙ heads_before ls)
     (cases_Bool (is_head l))
 
 -- and it is one
@@ -51,8 +46,8 @@ heads_through : (ls : List (List ℕ)) → before ls < length ls → heads (take
 heads_through [] b = absurd (omega arith)
 heads_through (l ∷ ls) b =
     ⊎_elim
-    (λ h. ap (λ k. heads (take (suc k) (l ∷ ls))) (before_yes l ls h) ∙ heads_yes l [] h)
-    (λ h. ap (λ k. heads (take (suc k) (l ∷ ls))) (before_no l ls h) ∙ heads_no l (take (suc (before ls)) ls) h ∙ heads_through ls (omega (arith, before_no l ls h)))
+    (λ h. ap (λ k. heads (take (suc k) (l ∷ ls))) (before_head l ls h) ∙ heads_yes l [] h)
+    (λ h. ap (λ k. heads (take (suc k) (l ∷ ls))) (before_line l ls h) ∙ heads_no l (take (suc (before ls)) ls) h ∙ heads_through ls (omega (arith, before_line l ls h)))
     (cases_Bool (is_head l))
 
 -- k lines on
@@ -76,7 +71,7 @@ none_by false false true e f p r q = refl
 none_by false false false e f p (Ok h) q = cc
 none_by false false false e f p (Err g) q = cc
 
-some_ahead : (v : View) (h : Head) → Ok (Some h) ≡ head_answer v → before v.ahead < length v.ahead
+pub some_ahead : (v : View) (h : Head) → Ok (Some h) ≡ head_answer v → before v.ahead < length v.ahead
 some_ahead v h e = leb-false _ _ (some_by v.too_long _ (leb (length v.ahead) (before v.ahead)) _ _ _ _ h e)
 
 none_ahead : (v : View) → Ok None ≡ head_answer v → length v.ahead ≤ before v.ahead
@@ -100,8 +95,8 @@ by_answer file v (Ok None) e s =
     )
 by_answer file v (Err f) e s = s
 
-pub head_stands : (file : List ℕ) (v : View) → Stands file v → Stands file (head_after v)
-head_stands file v s = by_answer file v (head_answer v) refl s
+pub head_stands : (file : List ℕ) (v u : View) → u ≡ head_after v → Stands file v → Stands file u
+head_stands file v u e s = subst (Stands file) (sym e) (by_answer file v (head_answer v) refl s)
 
 -- after a load
 by_fault : (file : List ℕ) (v : View) (o : Option SheetFault) → Stands file v → Stands file (load_move v o)
@@ -110,5 +105,5 @@ by_fault file v None s =
     let m = moved_on file v (before v.ahead) s in
     (m.0, sym (add-zero v.place.sheet) ∙ ap (λ k. v.place.sheet + k) (sym (heads_before v.ahead)) ∙ m.1)
 
-pub load_stands : (file : List ℕ) (s : Spelling) (v : View) → Stands file v → Stands file (load_after s v)
-load_stands file s v h = by_fault file v (load_fault s v) h
+pub load_stands : (file : List ℕ) (s : Spelling) (v u : View) → u ≡ load_after s v → Stands file v → Stands file u
+load_stands file s v u e h = subst (Stands file) (sym e) (by_fault file v (load_fault s v) h)

@@ -1,5 +1,5 @@
 -- A reader that loads each sheet in turn meets the faults of its file in their order.
-use Rattle.std.proofs.Common.{◌≡◌, ℕ, suc, ◌+◌, true, false, cond, ◌||◌, List, [], ◌∷◌, ◌++◌, take, drop, Some, None, Ok, Err, Option, Result, sym, refl, ap, ◌∙◌, subst, ⊎_elim, append_assoc, append-nil, arith, ◌==◌}
+use Rattle.std.proofs.Common.{◌≡◌, ℕ, suc, ◌+◌, true, false, ◌||◌, List, [], ◌∷◌, ◌++◌, take, drop, Some, None, Ok, Err, Option, Result, sym, refl, ap, ◌∙◌, subst, ⊎_elim, append_assoc, append-nil, arith, ◌==◌}
 use Rattle.std.proofs.lemmas.Bool.{cases_Bool}
 use Rattle.std.proofs.lemmas.Bool.Decides.{nat_tests}
 use Rattle.files.specs.declared.fault.LineFault.{LineFault}
@@ -14,22 +14,16 @@ use Rattle.files.specs.Sheets.{before, onward, head_place, located, stray_fault}
 use Rattle.files.specs.Views.{View, too_long, start_of, fits_draft, head_answer, head_move, head_after, load_fault, load_move, load_after}
 use Rattle.files.specs.Words.{Spelling}
 use Rattle.files.specs.Files.{Sheet, begun, extended, lines_fault, sheets_in, Between, rest_fault, rest_sheets, after_load, after_head, Takes}
-use Rattle.files.proofs.Seeking.{at_end, at_head, at_stray}
+use Rattle.files.proofs.Seeking.{before_head, before_line, at_end, at_head, at_stray}
 
 -- a reader between two sheets
-abbrev between : Place → List (List ℕ) → View
+abbrev pub between : Place → List (List ℕ) → View
 between p ls = record { too_long = false; place = p; ahead = ls; waiting = None }
 
-same : (v : View) → Between v → v ≡ between v.place v.ahead
+pub same : (v : View) → Between v → v ≡ between v.place v.ahead
 same v b =
     ap (λ x. record { too_long = x; place = v.place; ahead = v.ahead; waiting = v.waiting }) b.fits
     ∙ ap (λ x. record { too_long = false; place = v.place; ahead = v.ahead; waiting = x }) b.idle
-
-before_head : (l : List ℕ) (ls : List (List ℕ)) → is_head l ≡ true → before (l ∷ ls) ≡ 0
-before_head l ls y = ap (λ b. cond b 0 (suc (before ls))) y
-
-before_line : (l : List ℕ) (ls : List (List ℕ)) → is_head l ≡ false → before (l ∷ ls) ≡ suc (before ls)
-before_line l ls n = ap (λ b. cond b 0 (suc (before ls))) n
 
 before_drop : (ls : List (List ℕ)) → before (drop (before ls) ls) ≡ 0
 before_drop [] = refl
@@ -44,14 +38,14 @@ abbrev or_else : Option SheetFault → Option SheetFault → Option SheetFault
 or_else (Some f) o = Some f
 or_else None o = o
 
-abbrev Answer : Type 0
+abbrev pub Answer : Type 0
 Answer = Result (Option Head) SheetFault
 
 -- different answers are not the same
-fault_is_none : {A : Type 0} (f : SheetFault) (o : Option Head) (x y : A) → ◌≡◌ {A = Answer} (Err f) (Ok o) → x ≡ y
+pub fault_is_none : {A : Type 0} (f : SheetFault) (o : Option Head) (x y : A) → ◌≡◌ {A = Answer} (Err f) (Ok o) → x ≡ y
 fault_is_none f o x y z = cc
 
-head_is_none : {A : Type 0} (h : Head) (x y : A) → ◌≡◌ {A = Answer} (Ok (Some h)) (Ok None) → x ≡ y
+pub head_is_none : {A : Type 0} (h : Head) (x y : A) → ◌≡◌ {A = Answer} (Ok (Some h)) (Ok None) → x ≡ y
 head_is_none h x y z = cc
 
 same_head : (g h : Head) → ◌≡◌ {A = Answer} (Ok (Some g)) (Ok (Some h)) → g ≡ h
@@ -139,7 +133,7 @@ own_load : (s : Spelling) (p : Place) (ls : List (List ℕ)) (h : Head) → fits
 own_load s p ls h own = rw own refl
 
 -- no head has come
-none_begun : (p : Place) (l : List ℕ) (ls : List (List ℕ)) → is_head l ≡ false → (before (l ∷ ls) == 0 || p.sheet == 0) ≡ true → p.sheet ≡ 0
+pub none_begun : (p : Place) (l : List ℕ) (ls : List (List ℕ)) → is_head l ≡ false → (before (l ∷ ls) == 0 || p.sheet == 0) ≡ true → p.sheet ≡ 0
 none_begun p l ls n b = let c = rw n at b in grind (arith, nat_tests)
 
 module _ (spell : Head → Spelling) (own : (h : Head) → fits_draft (spell h) h ≡ true) where

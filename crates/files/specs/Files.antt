@@ -1,5 +1,5 @@
 -- What a whole file stands for, and which of its faults is the first, where each sheet is loaded in turn.
-use Rattle.std.specs.Prelude.{◌≡◌, ℕ, true, false, cond, ◌||◌, List, [], ◌∷◌, ◌++◌, Some, None, Ok, Err, Option, Result, ◌==◌}
+use Rattle.std.specs.Prelude.{◌≡◌, ℕ, zero, suc, ◌+◌, ◌-◌, true, false, cond, ◌||◌, List, [], ◌∷◌, ◌++◌, length, take, Some, None, Ok, Err, Option, Result, ◌==◌}
 use Rattle.rules.specs.declared.row.Row.{Row}
 use Rattle.files.specs.declared.fault.LineFault.TheVariants.{TooLong}
 use Rattle.files.specs.declared.fault.Place.{Place}
@@ -10,7 +10,7 @@ use Rattle.files.specs.Loads.{body, rows_in}
 use Rattle.files.specs.Heads.{is_head, head_in, head_of}
 use Rattle.files.specs.Parts.{lines}
 use Rattle.files.specs.Sheets.{before, onward, head_place, stray_fault, nowhere}
-use Rattle.files.specs.Views.{View, too_long, start_of, fits_draft, head_answer, head_after, load_fault, load_after}
+use Rattle.files.specs.Views.{View, Contents, too_long, start_of, fits_draft, head_answer, head_after, load_fault, load_after, load_contents}
 use Rattle.files.specs.Words.{Spelling}
 
 -- A sheet: its head, and the rows of its statements.
@@ -99,15 +99,67 @@ pub record Takes (spell : Head → Spelling) (v : View) (h : Head) : Type 0 wher
   pub answered : head_answer v ≡ Ok (Some h)
   pub loaded : load_fault (spell h) (head_after v) ≡ None
 
--- A reader that is asked for each head in turn, and each time loads it into a draft of its kind and tally, meets the first fault of the
--- file as its first refusal, and loads the sheets that the file stands for.
+-- What was read of a file: the sheets that were loaded, and the refusal that ended the reading, if one did.
+pub record Reading : Type 0 where
+  pub sheets : List Sheet
+  pub fault : Option SheetFault
+
+-- the reading is at its end
+abbrev pub ended : Option SheetFault → Reading
+ended o = record { sheets = []; fault = o }
+
+-- a sheet was loaded, unless its load was refused, and what was read after it
+abbrev pub then_load : Sheet → Reading → Option SheetFault → Reading
+then_load t rest (Some f) = ended (Some f)
+then_load t rest None = record { sheets = t ∷ rest.sheets; fault = rest.fault }
+
+-- a head was answered, or that there is none, or a refusal
+abbrev pub then_head : (Head → Reading) → Result (Option Head) SheetFault → Reading
+then_head load (Err f) = ended (Some f)
+then_head load (Ok None) = ended None
+then_head load (Ok (Some h)) = load h
+
+-- the sheet that a draft has
+abbrev pub drafted : Head → Contents → Sheet
+drafted h c = record { head = h; rows = c.rows }
+
+-- A whole reading from v on, of at most n heads. The reader is asked for a head, and loads its statements into a draft of its kind and
+-- tally, which has `had` before; and so on, until it is refused, or there is no head.
+abbrev pub read_all : (Head → Spelling) → (Head → Contents) → ℕ → View → Reading
+read_all spell had zero v = ended None
+read_all spell had (suc n) v = then_head
+    (λ h. then_load (drafted h (load_contents (spell h) (head_after v) (had h))) (read_all spell had n (load_after (spell h) (head_after v))) (load_fault (spell h) (head_after v)))
+    (head_answer v)
+
+-- the sheets before the one that a fault is in; all, where there is no fault
+abbrev pub sheets_before : Option SheetFault → List Sheet → List Sheet
+sheets_before (Some f) ts = take (f.place.sheet - 1) ts
+sheets_before None ts = ts
+
+-- each head is written as its own letters say
+abbrev pub Own : (Head → Spelling) → Type 0
+Own spell = (h : Head) → fits_draft (spell h) h ≡ true
+
+-- A reader at v that reads the whole file meets just the first fault of the file, if it has one, and loads just the sheets before it; of a
+-- well-formed file it loads just the sheets. No more heads come than the file has bytes.
+pub record ReadsWith (spell : Head → Spelling) (had : Head → Contents) (file : List ℕ) (v : View) : Type 0 where
+  pub refused : (read_all spell had (length file + 1) v).fault ≡ file_fault spell file
+  pub loaded : (read_all spell had (length file + 1) v).sheets ≡ sheets_before (file_fault spell file) (sheets_of spell file)
+  pub whole : WellFormed spell file → read_all spell had (length file + 1) v ≡ record { sheets = sheets_of spell file; fault = None }
+
+-- So it reads with any spelling that is its heads' own, and whatever the drafts had.
+abbrev pub ReadsFile : List ℕ → View → Type 0
+ReadsFile file v = (spell : Head → Spelling) (had : Head → Contents) → Own spell → ReadsWith spell had file v
+
+-- The same, turn by turn: how a reader that is asked for a head, and then loads it into a draft of its kind and tally, goes through the
+-- first fault and the sheets of what is still to come.
 pub record ReadsInTurn : Type 0 where
   -- it begins between two sheets, with the whole file to come
   pub start : (file : List ℕ) → too_long file ≡ false → Between (start_of file)
   -- and stands there again after each sheet
   pub next : (spell : Head → Spelling) (v : View) (h : Head) → Between v → Takes spell v h → Between (load_after (spell h) (head_after v))
   -- The first fault of what is to come is that of the next two calls, and of what is to come after them.
-  pub fault : (spell : Head → Spelling) → ((h : Head) → fits_draft (spell h) h ≡ true) → (v : View) → Between v
+  pub fault : (spell : Head → Spelling) → Own spell → (v : View) → Between v
       → rest_fault spell v ≡ after_head spell (head_after v) (head_answer v)
   -- The next sheet to come is the one that is loaded; where there is no head, there is none.
   pub sheet : (spell : Head → Spelling) (v : View) (h : Head) → Between v → Takes spell v h

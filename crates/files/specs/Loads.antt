@@ -1,5 +1,5 @@
 -- The sheet that the lines after a head stand for.
-use Rattle.std.specs.Prelude.{◌≡◌, ℕ, ◌+◌, List, [], ◌∷◌, ◌++◌, map, take, drop, Some, None, Ok, Err, Option, Result}
+use Rattle.std.specs.Prelude.{◌≡◌, ℕ, ◌+◌, ◌-◌, List, [], ◌∷◌, ◌++◌, map, take, drop, Some, None, Ok, Err, Option, Result}
 use Rattle.rules.specs.declared.row.Row.{Row}
 use Rattle.files.specs.declared.fault.Place.{Place}
 use Rattle.files.specs.declared.fault.SheetFault.{SheetFault}
@@ -21,7 +21,8 @@ body_fault s items p rows [] = None
 body_fault s items p rows (l ∷ ls) =
     elim (line_fault s items rows l) [ Some f ↦ Some (record { place = onward p; fault = f }) | None ↦ body_fault s items (onward p) (rows ++ (row_in s l ∷ [])) ls ]
 
--- after a load that is not refused the rows stand behind those that were there, and the cursor past the statements
+-- After a load that is not refused the rows stand behind those that were there, and the cursor past the statements. After one that is
+-- refused the cursor stands past the line that the fault is at, and the rows of the statements before that line are entered.
 abbrev pub Loaded : Result (Unit {0}) SheetFault → List Row → Place → List (List ℕ) → List Row → Place → List (List ℕ) → List Row → Type 0
 Loaded (Ok _) new p ls rows q ms rows' = (rows' ≡ rows ++ new) × (q.sheet ≡ p.sheet) × (q.line ≡ p.line + before ls) × (ms ≡ drop (before ls) ls)
-Loaded (Err _) new p ls rows q ms rows' = Unit {0}
+Loaded (Err f) new p ls rows q ms rows' = (q ≡ f.place) × (ms ≡ drop (q.line - p.line) ls) × (rows' ≡ rows ++ take (q.line - p.line - 1) new)

@@ -1,23 +1,18 @@
 -- How a text is parted into lines, fields and words, and what the cursors over them give.
 use Rattle.std.specs.Prelude.{◌≡◌, ℕ, cond, List, [], ◌∷◌, ◌++◌, Some, None, Option, ◌==◌, ◌≢◌}
 use Rattle.std.specs.Borrow.{Bor}
+use Rattle.std.specs.List.{slice_split, onto_first}
 use Rattle.files.specs.declared.parts.Parts.{Parts}
 use Rattle.files.specs.declared.parts.Lines.{Lines}
 
--- one byte more in front of the first part
-abbrev pub on_first : ℕ → List (List ℕ) → List (List ℕ)
-on_first b [] = (b ∷ []) ∷ []
-on_first b (p ∷ ps) = (b ∷ p) ∷ ps
-
 -- the parts of a text between the bytes c: always one more than there are such bytes, and any of them may be empty
 abbrev pub parted : ℕ → List ℕ → List (List ℕ)
-parted c [] = [] ∷ []
-parted c (b ∷ bs) = cond (b == c) ([] ∷ parted c bs) (on_first b (parted c bs))
+parted c text = slice_split (λ b. b == c) text
 
 -- the lines of a file, each up to a line feed, which the last may lack; after a final line feed there is no further line
 abbrev pub lines : List ℕ → List (List ℕ)
 lines [] = []
-lines (b ∷ bs) = cond (b == 10) ([] ∷ lines bs) (on_first b (lines bs))
+lines (b ∷ bs) = cond (b == 10) ([] ∷ lines bs) (onto_first b (lines bs))
 
 -- the fields of a line, parted by single spaces; an empty line has one field, which is empty
 abbrev pub fields : List ℕ → List (List ℕ)

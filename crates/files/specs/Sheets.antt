@@ -1,5 +1,5 @@
 -- Where heads stand among the lines of a file, and what is answered to whoever asks for the next.
-use Rattle.std.specs.Prelude.{◌≡◌, ℕ, suc, ◌+◌, false, cond, ◌&&◌, List, [], ◌∷◌, length, drop, Some, None, Ok, Err, Option, Result, ◌==◌, nat_le, slice_index_or}
+use Rattle.std.specs.Prelude.{◌≡◌, ℕ, suc, ◌+◌, ◌-◌, false, cond, ◌&&◌, List, [], ◌∷◌, length, drop, Some, None, Ok, Err, Option, Result, ◌==◌, nat_le, slice_index_or}
 use Rattle.std.specs.Borrow.{Bor}
 use Rattle.files.specs.declared.fault.LineFault.{LineFault}
 use Rattle.files.specs.declared.fault.LineFault.TheVariants.{TooLong, NoHead}
@@ -54,11 +54,11 @@ next_head p ls =
 abbrev pub nowhere : LineFault → SheetFault
 nowhere f = record { place = record { sheet = 0; line = 0 }; fault = f }
 
--- where a cursor stands after an answer that is no fault: past the head, or at the end
+-- where a cursor stands after an answer: past the head, at the end, or past the line that the fault is at
 abbrev pub Moved : Place → List (List ℕ) → Result (Option Head) SheetFault → Place → List (List ℕ) → Type 0
 Moved p ls (Ok (Some h)) q ms = (q ≡ head_place p (before ls)) × (ms ≡ drop (before ls + 1) ls)
 Moved p ls (Ok None) q ms = (q.sheet ≡ p.sheet) × (q.line ≡ p.line + length ls) × (ms ≡ [])
-Moved p ls (Err f) q ms = Unit {0}
+Moved p ls (Err f) q ms = (q ≡ f.place) × (ms ≡ drop (q.line - p.line) ls)
 
 -- the next line is given, and read, if it is a statement's
 abbrev pub GivesStatement : Place → List (List ℕ) → Option (Bor (List ℕ)) → Place → List (List ℕ) → Type 0

@@ -1,8 +1,7 @@
 -- A reader's place is counted through its file.
 use Rattle.std.specs.Prelude.{◌≡◌, ℕ, suc, cond, List, [], ◌∷◌, take, drop}
 use Rattle.files.specs.Heads.{is_head}
-use Rattle.files.specs.Views.{View, lines_of, start_of, head_after, load_after}
-use Rattle.files.specs.Words.{Spelling}
+use Rattle.files.specs.Views.{View, lines_of}
 
 -- how many of some lines are heads
 abbrev pub heads : List (List ℕ) → ℕ
@@ -13,9 +12,3 @@ heads (l ∷ ls) = cond (is_head l) (suc (heads ls)) (heads ls)
 -- those read.
 abbrev pub Stands : List ℕ → View → Type 0
 Stands file v = (v.ahead ≡ drop v.place.line (lines_of file)) × (v.place.sheet ≡ heads (take v.place.line (lines_of file)))
-
--- So a reader stands in its file from the start, and after each call.
-pub record StandsThroughout : Type 0 where
-  pub start : (file : List ℕ) → Stands file (start_of file)
-  pub head : (file : List ℕ) (v : View) → Stands file v → Stands file (head_after v)
-  pub load : (file : List ℕ) (s : Spelling) (v : View) → Stands file v → Stands file (load_after s v)

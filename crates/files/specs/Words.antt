@@ -1,5 +1,6 @@
 -- The words of a field, and the set that they name.
-use Rattle.std.specs.Prelude.{ℕ, ◌^◌, ◌<◌, Bool, true, cond, ◌&&◌, List, [], ◌∷◌, length, is_some, Some, None, Option, Result, ◌==◌, bit_or, nat_lt}
+use Rattle.std.specs.Prelude.{◌≡◌, ℕ, ◌^◌, Bool, true, cond, ◌&&◌, List, [], ◌∷◌, length, is_some, Some, None, Option, Result, ◌==◌, bit_or, nat_lt}
+use Rattle.std.specs.List.{Any}
 use Rattle.kinds.specs.Meaning.{Meaning}
 use Rattle.kinds.specs.Words.{read}
 use Rattle.files.specs.declared.fault.FieldFault.{FieldFault}
@@ -53,6 +54,6 @@ set_of code field = with_words code 0 (words field)
 abbrev pub set_in : (List ℕ → Option ℕ) → List ℕ → Result ℕ FieldFault
 set_in code field = given (are_words code field) (set_of code field) NotWord
 
--- A set that is read from words has only codes of the kind.
-abbrev pub SetsFit : Type 0
-SetsFit = (codes : ℕ) (names : List (List ℕ)) (field : List ℕ) → set_of (code_of codes names) field < 2 ^ codes
+-- some word of a field has the code c
+abbrev pub Names : (List ℕ → Option ℕ) → List ℕ → ℕ → Type 0
+Names code field c = Any (λ word. code word ≡ Some c) (words field)

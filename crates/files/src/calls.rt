@@ -1,9 +1,11 @@
 // The calls of a reader.
-ghost use Rattle.std.specs.Prelude.{◌≡◌, ◌≤◌, true, [], length};
+ghost use Rattle.std.specs.Prelude.{◌≡◌, ℕ, ◌≤◌, List, true, [], length};
 ghost use Rattle.rules.specs.Properly.{between};
 ghost use Rattle.files.specs.Faults.{answered};
+ghost use Rattle.files.specs.Files.{ReadsFile};
 ghost use Rattle.files.specs.Parts.{lines};
 ghost use Rattle.files.specs.Sheets.{nowhere as nowhere_with};
+ghost use Rattle.files.specs.Standing.{Stands};
 ghost use Rattle.files.specs.Views.{view_of, start_of, lines_of, head_answer, head_after, load_fault, load_after, contents, load_contents};
 ghost use Rattle.files.specs.Words.{spelled};
 
@@ -40,7 +42,9 @@ fn readable(file: &[u8]) -> &[u8]
 impl<'a> Reader<'a> {
     /// A reader before the first line of a file. One that is too long is refused by each call.
     pub fn new(file: &'a [u8]) -> Reader<'a>
-        ensures { view_of result ≡ start_of file.now }
+        ensures view { view_of result ≡ start_of file.now }
+        ensures stands { Stands file.now (view_of result) }
+        ensures reads { ReadsFile file.now (view_of result) }
     {
         Reader {
             too_long: file.len() > LARGEST,
@@ -56,6 +60,7 @@ impl<'a> Reader<'a> {
     pub fn next_head(&mut self) -> Result<Option<Head>, SheetFault>
         ensures answer { result ≡ head_answer (view_of self.old) }
         ensures after { view_of self.new ≡ head_after (view_of self.old) }
+        ensures stands { (file : List ℕ) → Stands file (view_of self.old) → Stands file (view_of self.new) }
     {
         if self.too_long {
             return Err(nowhere(LineFault::TooLong));
@@ -75,6 +80,7 @@ impl<'a> Reader<'a> {
     ) -> Result<(), SheetFault>
         ensures answer { result ≡ answered (load_fault (spelled K.Kind.meaning K.Notation.words K.Notation.initial T.TallyLetter.initial) (view_of self.old)) tt }
         ensures after { view_of self.new ≡ load_after (spelled K.Kind.meaning K.Notation.words K.Notation.initial T.TallyLetter.initial) (view_of self.old) }
+        ensures stands { (file : List ℕ) → Stands file (view_of self.old) → Stands file (view_of self.new) }
         ensures draft { contents draft.new.items draft.new.rows.items ≡ load_contents (spelled K.Kind.meaning K.Notation.words K.Notation.initial T.TallyLetter.initial) (view_of self.old) (contents draft.old.items draft.old.rows.items) }
     {
         if self.too_long {

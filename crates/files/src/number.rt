@@ -1,5 +1,6 @@
 // Numbers of a file.
-ghost use Rattle.std.specs.Prelude.{◌≡◌, ◌≤◌, length};
+ghost use Rattle.std.specs.Prelude.{◌≡◌, ◌↔◌, ℕ, ◌<◌, ◌≤◌, ◌^◌, length, Ok};
+ghost use Rattle.std.specs.Fmt.{decimal};
 ghost use Rattle.files.specs.declared.fault.FieldFault.TheVariants.{NotNumber as Unfit};
 ghost use Rattle.files.specs.Faults.{given};
 ghost use Rattle.files.specs.Numbers.{all_digits, value_of, number_in};
@@ -23,7 +24,8 @@ fn digits(text: &[u8]) -> Result<u32, FieldFault>
 
 /// Reads a field that is a number: `0`, or one to six digits without a leading zero.
 pub fn number(field: &[u8]) -> Result<u32, FieldFault>
-    ensures { result ≡ number_in field.now }
+    ensures number { result ≡ number_in field.now }
+    ensures written { (n : ℕ) → (result ≡ Ok n) ↔ ((n < 10 ^ 6) × (field.now ≡ decimal n)) }
 {
     match field {
         [b'0'] => Ok(0),

@@ -1,6 +1,7 @@
 // Parts of a text between single bytes.
-ghost use Rattle.std.specs.Prelude.{◌≡◌, ℕ, ◌<◌, ◌≤◌, length, ◌≢◌, slice_index};
-ghost use Rattle.files.specs.Parts.{parted, lines, left, Split, Gives, GivesLine};
+ghost use Rattle.std.specs.Prelude.{◌≡◌, ℕ, ◌+◌, ◌<◌, ◌≤◌, length, ◌≢◌, ◌==◌, slice_index, count_by, All};
+ghost use Rattle.std.specs.List.{join_with_byte};
+ghost use Rattle.files.specs.Parts.{parted, lines, left, Lacks, Split, Gives, GivesLine};
 
 /// Gives the parts of a text between the bytes `by`, one after another.
 #[derive(Drop)]
@@ -44,7 +45,10 @@ pub fn split_once<'a>(text: &'a [u8], by: u8) -> (&'a [u8], Option<&'a [u8]>)
 impl<'a> Parts<'a> {
     /// All parts of the text are to come.
     pub fn new(text: &'a [u8], by: u8) -> Parts<'a>
-        ensures { left result ≡ parted by text.now }
+        ensures parts { left result ≡ parted by text.now }
+        ensures joined { join_with_byte by (left result) ≡ text.now }
+        ensures apart { All (Lacks by) (left result) }
+        ensures count { length (left result) ≡ count_by (λ b. b == by) text.now + 1 }
     {
         Parts {
             by,

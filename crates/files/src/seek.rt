@@ -21,13 +21,6 @@ fn stray(line: &[u8]) -> LineFault
 }
 
 impl<'a> Spot<'a> {
-    /// The place of the last line read.
-    pub fn place(&self) -> Place
-        ensures { result ≡ self.now.place }
-    {
-        self.place
-    }
-
     // Whether a head has come.
     fn state(&self) -> State
         ensures { result ≡ state_of self.now.place }
@@ -57,7 +50,7 @@ impl<'a> Spot<'a> {
         }
     }
 
-    /// Passes over statements, once a head has come, to the next head.
+    /// Passes over statements, once a head has come, to the next head. Refused, it stands past the line that the fault is at.
     pub fn find_head(&mut self) -> Result<Option<Head>, SheetFault>
         ensures answer { result ≡ next_head self.old.place (ahead_of self.old) }
         ensures sized { IfOk result (λ o. IfSome o (λ h. between 1 12 h.size ≡ true)) }

@@ -1,6 +1,7 @@
 // The words of a field, and the set that they name.
-ghost use Rattle.std.specs.Prelude.{◌≡◌, ◌<◌, IfSome};
-ghost use Rattle.files.specs.Words.{code_of as code_in, set_in};
+ghost use Rattle.std.specs.Prelude.{◌≡◌, ℕ, ◌^◌, ◌<◌, IfOk, IfSome, Decides};
+ghost use Rattle.points.specs.Sets.{has};
+ghost use Rattle.files.specs.Words.{code_of as code_in, set_in, Names};
 
 use crate::fault::FieldFault;
 use crate::parts::Parts;
@@ -23,7 +24,9 @@ fn code_of<K: Kind + Notation>(word: &[u8]) -> Option<u8>
 
 /// Reads a field of words parted by `/`: the set of their codes, as bits. An empty field is the empty set.
 pub fn set_of<K: Kind + Notation>(field: &[u8]) -> Result<u64, FieldFault>
-    ensures { result ≡ set_in (code_in K.Kind.meaning.codes K.Notation.words) field.now }
+    ensures set { result ≡ set_in (code_in K.Kind.meaning.codes K.Notation.words) field.now }
+    ensures of_kind { IfOk result (λ s. s < 2 ^ K.Kind.meaning.codes) }
+    ensures named { IfOk result (λ s. (c : ℕ) → Decides (has s c) (Names (code_in K.Kind.meaning.codes K.Notation.words) field.now c)) }
 {
     let mut set = 0;
     if field.is_empty() {

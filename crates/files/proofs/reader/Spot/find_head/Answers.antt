@@ -3,7 +3,7 @@ use Rattle.std.proofs.lemmas.Result.{err_from_is_err_and}
 use Rattle.files.specs.Parts.{lines}
 use Rattle.files.specs.Heads.{head_in}
 use Rattle.files.specs.Faults.{placed_at}
-use Rattle.files.proofs.Seeking.{passed, head_answer, place_of_head, head_rest, head_known, no_head, some_sheet, located_ok, located_err}
+use Rattle.files.proofs.Seeking.{passed, answer_at_head, place_of_head, head_rest, head_known, no_head, some_sheet, located_ok, located_err}
 use Rattle.files.proofs.reader.Spot.find_head.Goals as goal
 
 pub returns-in_err-head-in_default-HeadLine-clause-answer : goal.returns-in_err-head-in_default-HeadLine-clause-answer
@@ -11,7 +11,7 @@ returns-in_err-head-in_default-HeadLine-clause-answer c =
     let p = err_from_is_err_and c.from_residual.result c.from_residual.ensures.1 in
     let q = c.loop-line.self.place in
     let l = c.in-Some.line.now in
-    let a = head_answer c.args.self.now.place q (lines c.args.self.now.ahead.rest.now) (lines c.loop-line.self.ahead.rest.now) (lines c.next.new.self.rest.now) l
+    let a = answer_at_head c.args.self.now.place q (lines c.args.self.now.ahead.rest.now) (lines c.loop-line.self.ahead.rest.now) (lines c.next.new.self.rest.now) l
     c.loop-line.invariant c.in-Some.ensures (head_known l (sym c.in_default-HeadLine.ensures)) in
     rw (p.1, p.2) (located_err (record { sheet = q.sheet + 1; line = q.line + 1 }) _ (head_in l) (c.in_err-head-in_default-HeadLine.ensures ∙ ap (placed_at _) c.parse_head.ensures.head) ∙ a)
 
@@ -19,7 +19,7 @@ pub returns-in_default-HeadLine-clause-answer : goal.returns-in_default-HeadLine
 returns-in_default-HeadLine-clause-answer c =
     let q = c.loop-line.self.place in
     let l = c.in-Some.line.now in
-    let a = head_answer c.args.self.now.place q (lines c.args.self.now.ahead.rest.now) (lines c.loop-line.self.ahead.rest.now) (lines c.next.new.self.rest.now) l
+    let a = answer_at_head c.args.self.now.place q (lines c.args.self.now.ahead.rest.now) (lines c.loop-line.self.ahead.rest.now) (lines c.next.new.self.rest.now) l
     c.loop-line.invariant c.in-Some.ensures (head_known l (sym c.in_default-HeadLine.ensures)) in
     located_ok (record { sheet = q.sheet + 1; line = q.line + 1 }) _ (head_in l) (c.in_ok-head-in_default-HeadLine.ensures ∙ ap (placed_at _) c.parse_head.ensures.head) ∙ a
 
