@@ -1,3 +1,4 @@
 -- The lemmas, by topic.
 pub mod Lined
 pub mod Remaining
+pub mod Settled
