@@ -2,3 +2,4 @@
 pub mod Lined
 pub mod Remaining
 pub mod Settled
+pub mod Sights
