@@ -19,7 +19,7 @@ use std::process::ExitCode;
 use tallies::by_weight::ByWeight;
 use tallies::sworn_first::SwornFirst;
 
-// The bytes that a report or a fault takes at most: a line for the sheet, for each of 12 items and for each of 20 persons.
+// More bytes than a report or the line of a fault takes: the longest report has 1,217 (`the_longest_report` in trials).
 const LONGEST_REPORT: usize = 4096;
 
 /// All of standard input, or as much as shows that it is longer than a file may be.
