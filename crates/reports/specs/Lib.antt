@@ -1,4 +1,5 @@
 -- The definitions that the contracts cite.
 pub mod Lines
 pub mod Found
+pub mod Account
 pub mod Faults

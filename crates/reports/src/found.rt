@@ -1,14 +1,15 @@
 // What is shown and charged among the answers of a run.
 ghost use Rattle.std.specs.Prelude.{◌≡◌, IfOk};
 ghost use Rattle.std.specs.Option.{option_copied};
-ghost use Rattle.reports.specs.Found.{first_sight as first_of_sights, charges_in as charges_among};
+ghost use Rattle.reports.specs.Found.{first_sight as first_of_sights, IsFirstSight, charges_in as charges_among};
 
 use runs::answer::{Answer, Sight};
 use std::alloc::{AllocError, Global};
 
 /// What is shown first, if anything is.
 pub fn first_sight<V, C>(answers: &[Answer<V, C>]) -> Option<&Sight<V, C>>
-    ensures { option_copied result ≡ first_of_sights answers.now }
+    ensures stands { IsFirstSight answers.now (option_copied result) }
+    ensures is { option_copied result ≡ first_of_sights answers.now }
 {
     for answer in answers {
         if let Answer::Shown(sight) = answer {

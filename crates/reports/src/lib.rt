@@ -1,6 +1,7 @@
 // Reports: what is printed of a settled sheet.
 #![tactic(auto)]
 
+pub mod account;
 pub mod fault;
 pub mod found;
 pub mod printed;

@@ -8,25 +8,18 @@ use files::fault::SheetFault;
 use files::head::Head;
 use files::reader::Reader;
 use moments::Moments;
+use reports::account::account;
 use reports::fault::write_fault;
-use reports::found::{charges_in, first_sight};
 use reports::printed::{PrintedKind, PrintedTally};
-use reports::report::{Report, write_report};
-use runs::call::Call;
-use runs::replay::replay;
 use sheets::held::Draft;
 use spells::Spells;
-use std::alloc::{AllocError, Global};
 use std::io;
 use std::io::{Read, Write};
 use std::process::ExitCode;
 use tallies::by_weight::ByWeight;
 use tallies::sworn_first::SwornFirst;
 
-// The steps that each sheet is given.
-const STEPS: u32 = 1_000_000;
-
-// The bytes that a report or a fault takes at most: a line for the sheet, for each of 12 items and for each of 20 persons.
+// More bytes than a report or the line of a fault takes: the longest report has 1,217 (`the_longest_report` in trials).
 const LONGEST_REPORT: usize = 4096;
 
 /// All of standard input, or as much as shows that it is longer than a file may be.
@@ -42,18 +35,6 @@ fn read_file(rt: HostRuntime) -> io::Result<Vec<u8>> {
         }
     }
     Ok(file)
-}
-
-/// What is done with a sheet: it is closed, searched, shown, and each person is charged.
-fn settling(heap: Global) -> Result<Vec<Call>, AllocError> {
-    let mut script = Vec::new(heap);
-    script.push(Call::Close)?;
-    script.push(Call::Search(STEPS))?;
-    script.push(Call::Show(12))?;
-    for person in 1..21 {
-        script.push(Call::Charge(person))?;
-    }
-    Ok(script)
 }
 
 fn print_bytes(rt: HostRuntime, bytes: &[u8]) -> io::Result<()> {
@@ -84,19 +65,8 @@ fn settle<K: PrintedKind, T: PrintedTally>(
         Ok(()) => {}
         Err(fault) => return Ok(Some(fault)),
     }
-    let script = settling(heap)?;
-    let answers = replay(heap, draft, script.as_slice())?;
-    let charges = charges_in(heap, answers.as_slice())?;
-    let Some(sight) = first_sight(answers.as_slice()) else {
-        return Err(anyhow!("nothing was shown"));
-    };
-    let report = Report {
-        number,
-        sight,
-        charges: charges.as_slice(),
-    };
     let mut buffer = [0u8; LONGEST_REPORT];
-    match write_report::<K, T>(heap, &report, &mut buffer) {
+    match account(heap, number, draft, &mut buffer) {
         Ok(length) => print_bytes(rt, &buffer[..length])?,
         Err(refusal) => return Err(anyhow!("refused by {}", refusal.number())),
     }

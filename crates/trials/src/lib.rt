@@ -4,6 +4,8 @@
 #[cfg(test)]
 mod drafts;
 #[cfg(test)]
+mod printing;
+#[cfg(test)]
 mod readers;
 #[cfg(test)]
 mod scripts;

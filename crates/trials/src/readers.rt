@@ -180,9 +180,19 @@ fn statements_refused(rt: HostRuntime) -> Result<(), Fail> {
 #[test]
 fn moments_loaded(rt: HostRuntime) -> Result<(), Fail> {
     let mut draft: Draft<Moments, ByWeight> = Draft::new(rt.alloc()).ok().ok_or("no memory")?;
+    for file in [
+        "M 3 w\n1 2 < 3 1\n2 3 < 2 1\n1 3 > 4 2\n",
+        "M 3 w\n1 2 < 3 1\n2 3 < 2 1\n1 3 > 4 2",
+    ] {
+        assert!(rt;
+            read(file.as_bytes(), &mut draft) == (Answer::Loaded, 3, 3),
+            "{file}"
+        );
+        assert!(rt; look(&draft, 1) == (1, 2, 2, 3, 1, false), "{file}");
+        assert!(rt; look(&draft, 2) == (2, 3, 2, 2, 1, false), "{file}");
+        assert!(rt; look(&draft, 3) == (1, 3, 4, 4, 2, false), "{file}");
+    }
     for (file, items, entered) in [
-        ("M 3 w\n1 2 < 3 1\n2 3 < 2 1\n1 3 > 4 2\n", 3, 3),
-        ("M 3 w\n1 2 < 3 1\n2 3 < 2 1\n1 3 > 4 2", 3, 3),
         ("M 12 w", 12, 0),
         ("M 1 w\n", 1, 0),
         ("M 3 w\n2 1  1000 20 !\n1 2 =/</>/= 1 1\nX\n\n", 3, 2),
@@ -216,6 +226,8 @@ fn dwellings_loaded(rt: HostRuntime) -> Result<(), Fail> {
     assert!(rt; read(file.as_bytes(), &mut draft) == (Answer::Loaded, 4, 4));
     assert!(rt; look(&draft, 1) == (1, 2, 258, 3, 1, false));
     assert!(rt; look(&draft, 2) == (3, 4, 2, 7, 2, true));
+    assert!(rt; look(&draft, 3) == (1, 4, 0, 1, 1, false));
+    assert!(rt; look(&draft, 4) == (1, 2, 221, 1, 1, false));
     let file = "D 4 r\n1 2 p 3 1\n";
     assert!(rt; read(file.as_bytes(), &mut draft) == (Answer::Refused(15, 1, 2, 3), 4, 0));
     Ok(())
@@ -325,25 +337,31 @@ fn long_lines(rt: HostRuntime) -> Result<(), Fail> {
 }
 
 /// What is answered to whoever asks twice for a head.
-fn second_head(file: &[u8]) -> Answer {
+fn two_heads(file: &[u8]) -> (Answer, Answer) {
     let mut reader = Reader::new(file);
-    let _ = head(&mut reader);
-    head(&mut reader)
+    let first = head(&mut reader);
+    (first, head(&mut reader))
 }
 
 #[test]
 fn long_heads(rt: HostRuntime) -> Result<(), Fail> {
     let heap = rt.alloc();
+    // The first head is refused, and again when it is asked for anew.
     for (first, more, fault) in [
         ("M", 79, (13, 1, 1, 0)),
         ("M", 80, (17, 1, 1, 0)),
         ("m", 79, (12, 0, 1, 0)),
         ("m", 80, (17, 0, 1, 0)),
-        ("M 3 w\n1 2 < 3 1\nZ", 79, (13, 2, 3, 0)),
-        ("M 3 w\n1 2 < 3 1\nZ", 80, (17, 2, 3, 0)),
     ] {
         let file = repeated(heap, first, "x", more)?;
-        assert!(rt; second_head(file.as_slice()) == as_answer(fault), "{first}");
+        let answers = (as_answer(fault), as_answer(fault));
+        assert!(rt; two_heads(file.as_slice()) == answers, "{first}");
+    }
+    // The first head is answered, and the second refused.
+    for (more, fault) in [(79, (13, 2, 3, 0)), (80, (17, 2, 3, 0))] {
+        let file = repeated(heap, "M 3 w\n1 2 < 3 1\nZ", "x", more)?;
+        let answers = (Answer::Head(b'M', 3, b'w'), as_answer(fault));
+        assert!(rt; two_heads(file.as_slice()) == answers, "{more}");
     }
     Ok(())
 }

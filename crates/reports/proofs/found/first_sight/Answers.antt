@@ -2,6 +2,7 @@ use Rattle.std.proofs.Common.{sym, ap, ◌∙◌, refl}
 use Rattle.std.proofs.lemmas.List.{drop_all}
 use Rattle.reports.specs.Found.{first_sight}
 use Rattle.reports.proofs.Remaining.{no_sight, first_there, first_later}
+use Rattle.reports.proofs.Sights.{stands_as}
 use Rattle.reports.proofs.found.first_sight.Goals as goal
 
 pub loop-answer-init : goal.loop-answer-init
@@ -9,7 +10,8 @@ loop-answer-init g c = refl
 
 pub returns-in-Shown : goal.returns-in-Shown
 returns-in-Shown g c =
-    first_there c.args.answers.now c.loop-answer.answer-index c.answer-item.result c.in-Shown.sight c.loop-answer-test.true c.answer-item.is c.loop-answer.invariant c.in-Shown.is
+    let is = first_there c.args.answers.now c.loop-answer.answer-index c.answer-item.result c.in-Shown.sight c.loop-answer-test.true c.answer-item.is c.loop-answer.invariant c.in-Shown.is in
+    record { stands = stands_as c.args.answers.now _ is; is = is }
 
 pub loop-answer-preserved : goal.loop-answer-preserved
 loop-answer-preserved g c =
@@ -17,4 +19,6 @@ loop-answer-preserved g c =
     (no_sight c.answer-item.result c.in_default.not-Shown)
 
 pub returns : goal.returns
-returns g c = sym (c.loop-answer.invariant ∙ ap first_sight (drop_all c.loop-answer.answer-index c.args.answers.now c.loop-answer-test.false))
+returns g c =
+    let is = sym (c.loop-answer.invariant ∙ ap first_sight (drop_all c.loop-answer.answer-index c.args.answers.now c.loop-answer-test.false)) in
+    record { stands = stands_as c.args.answers.now _ is; is = is }
