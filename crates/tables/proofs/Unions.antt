@@ -1,18 +1,14 @@
 -- Sets of one base relation, and unions of sets of base relations, as bits.
-use Rattle.std.proofs.Common.{◌≡◌, ℕ, zero, suc, ◌+◌, ◌/◌, ◌%◌, ◌^◌, ◌<◌, ◌≤◌, true, false, ◌||◌, eqb, Decides, sym, refl, ap, ◌∙◌, subst, inl, inr, arith, pow_pos}
-use lib.Bits.{bit_or, or_shr, or_mod}
-use Rattle.std.proofs.lemmas.Nat.{mod_below}
-use Rattle.std.proofs.lemmas.Bool.{both_ways, cases_lt, cases_order, or_cases, or_left, or_right}
+use Rattle.std.proofs.Common.{◌≡◌, ℕ, ◌+◌, ◌^◌, ◌<◌, ◌≤◌, true, false, Decides, sym, ◌∙◌, subst, inl, inr, arith}
+use lib.Bits.{bit_or}
+use Rattle.std.proofs.lemmas.Bool.{both_ways, cases_lt, cases_order, eqb-true, eq-eqb, or_cases, or_left, or_right}
 use Rattle.points.specs.Sets.{has}
-use Rattle.points.proofs.Inserted.{has_add_below, has_add_here, add_below}
+use Rattle.points.proofs.United.{has_none, has_single, has_union}
 use Rattle.points.proofs.Tabled.{has_beyond}
 use Rattle.tables.specs.Relations.{Single}
 
 never : (c : ℕ) → c < 0 → ⊥
 never c l = omega arith
-
-above : (x : ℕ) → suc (suc x) < 2 → ⊥
-above x l = omega arith
 
 between : (c n : ℕ) → c < n + 1 → n < c → ⊥
 between c n l o = omega arith
@@ -20,44 +16,12 @@ between c n l o = omega arith
 below_next : (c n : ℕ) → c < n → c < n + 1
 below_next c n l = omega arith
 
-has_none : (e : ℕ) → has 0 e ≡ false
-has_none e = has_beyond 0 0 e (omega arith) (omega arith)
-
 -- the set of one base relation
 pub single_bit : (c : ℕ) → c < 64 → Single c (2 ^ c)
-single_bit c small e = elim (cases_order e c) [
-  | inl same ↦ (λ _. (same, small), λ _. subst (λ (i : ℕ). has (2 ^ c) i ≡ true) (sym same) here)
-  | inr (inl below) ↦ apart (ap (λ (s : ℕ). has s e) (sym whole) ∙ has_add_below 0 c e below ∙ has_none e) (λ same. omega arith)
-  | inr (inr above) ↦ apart (has_beyond (2 ^ c) (c + 1) e short (omega arith)) (λ same. omega arith)
-]
-  where
-    whole : 0 + 2 ^ c ≡ 2 ^ c
-    whole = omega arith
-
-    here : has (2 ^ c) c ≡ true
-    here = ap (λ (s : ℕ). has s c) (sym whole) ∙ has_add_here 0 c (omega (arith, pow_pos c))
-
-    short : 2 ^ c < 2 ^ (c + 1)
-    short = let added : 0 + 2 ^ c < 2 ^ (c + 1) = add_below 0 c (omega (arith, pow_pos c)) in omega arith
-
-    apart : has (2 ^ c) e ≡ false → (e ≡ c → ⊥) → Decides (has (2 ^ c) e) ((e ≡ c) × (c < 64))
-    apart out differs = (λ p. absurd (both_ways (has (2 ^ c) e) out p), λ p. absurd (differs p.0))
-
--- one bit of a union
-or_one : (x y : ℕ) → x < 2 → y < 2 → eqb (bit_or x y) 1 ≡ (eqb x 1 || eqb y 1)
-or_one zero zero p q = refl
-or_one zero (suc zero) p q = refl
-or_one zero (suc (suc y)) p q = absurd (above y q)
-or_one (suc zero) zero p q = refl
-or_one (suc zero) (suc zero) p q = refl
-or_one (suc zero) (suc (suc y)) p q = absurd (above y q)
-or_one (suc (suc x)) y p q = absurd (above x p)
-
-has_union : (a b e : ℕ) → has (bit_or a b) e ≡ (has a e || has b e)
-has_union a b e =
-    ap (λ (n : ℕ). eqb (n % 2) 1) (or_shr a b e)
-    ∙ ap (λ (n : ℕ). eqb n 1) (or_mod (a / 2 ^ e) (b / 2 ^ e) 1)
-    ∙ or_one (a / 2 ^ e % 2) (b / 2 ^ e % 2) (mod_below (a / 2 ^ e) 2 (omega arith)) (mod_below (b / 2 ^ e) 2 (omega arith))
+single_bit c small e = (
+  λ p. (eqb-true e c (sym (has_single c e) ∙ p), small),
+  λ p. has_single c e ∙ eq-eqb e c p.0,
+)
 
 -- The set has exactly the codes e that some member c below n gives.
 abbrev pub Union : ℕ → (ℕ → ℕ → Type 0) → ℕ → ℕ → Type 0
