@@ -3,7 +3,8 @@ use Rattle.std.proofs.Common.{◌≡◌, ℕ, zero, suc, ◌<◌, T, ltb, sym, r
 use Prim.Native.Nat.compare
 use Prim.Native.Nat.{Ordering, compare}
 use Rattle.std.proofs.lemmas.Bool.{cases_order, lt-ltb, le-ltb}
-use Rattle.points.specs.Points.{Says, converse, is_lt, same, compose}
+use Rattle.std.specs.Ordering.{is_lt as told_is_lt}
+use Rattle.points.specs.Points.{Says, converse, told, is_lt, same, compose}
 use Rattle.points.proofs.Finite.{implies, implied, every, every_at}
 
 pub compare_lt : (m n : ℕ) → m < n → compare m n ≡ Ordering.lt
@@ -136,3 +137,9 @@ ltb_compare m n = elim (cases_order m n) [
   | inr (inl l) ↦ lt-ltb m n l ∙ ap is_lt (sym (compare_lt m n l))
   | inr (inr g) ↦ le-ltb m n (omega arith) ∙ ap is_lt (sym (compare_gt m n g))
 ]
+
+-- what the code tells of an ordering
+pub told_lt : (o : Ordering) → told_is_lt (told o) ≡ is_lt o
+told_lt Ordering.lt = refl
+told_lt Ordering.eq = refl
+told_lt Ordering.gt = refl

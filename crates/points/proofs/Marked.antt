@@ -1,13 +1,13 @@
 -- The marks of items on one axis: where each triple of a scenario fits along the axis, the ranks of the marks have the scenario.
-use Rattle.std.proofs.Common.{◌≡◌, ℕ, zero, suc, ◌+◌, ◌<◌, ◌≤◌, Bool, T, List, [], sym, ap, ◌∙◌, subst, inl, inr, not-suc-le-zero, add-one, arith}
+use Rattle.std.proofs.Common.{◌≡◌, ℕ, zero, suc, ◌+◌, ◌<◌, ◌≤◌, Bool, T, List, [], count_by, sym, ap, ◌∙◌, subst, inl, inr, not-suc-le-zero, add-one, arith}
 use Prim.Native.Nat.{Ordering, compare}
 use Rattle.std.proofs.lemmas.Bool.{cases_order, cases_lt}
 use Rattle.points.specs.Points.{converse, is_lt, compose}
-use Rattle.points.specs.Ranks.{one, count, Has, rank, Consistent}
+use Rattle.points.specs.Ranks.{Has, rank, Consistent}
 use Rattle.points.specs.Scenarios.{entry}
 use Rattle.points.specs.Marks.{of_item, marks, choose, stands, in_scenario, mark_rank}
 use Rattle.points.proofs.Compare.{compare_lt, compare_gt, compare_self, compare_converse, compose_compare, converse_converse, compose_swap, compose_turn}
-use Rattle.points.proofs.Counting.{count_same}
+use Rattle.points.proofs.Counting.{one, count-cons, count_same}
 use Rattle.points.proofs.Ranked.{rank_lemma}
 
 -- the marks of n items that have m each are the pairs (i, s) with i < n and s < m
@@ -201,16 +201,13 @@ mark_rank_same f g m e n scenario i s hs =
 
 -- a loop over the marks of an item, and one over the items
 
-pub count_of_item : (f : ℕ × ℕ → Bool) (k m : ℕ) (ms : List (ℕ × ℕ)) → count f (of_item k m ms) ≡ count f (of_item k m []) + count f ms
+pub count_of_item : (f : ℕ × ℕ → Bool) (k m : ℕ) (ms : List (ℕ × ℕ)) → count_by f (of_item k m ms) ≡ count_by f (of_item k m []) + count_by f ms
 count_of_item f k zero ms = omega arith
-count_of_item f k (suc m) ms = omega (arith, count_of_item f k m ms)
+count_of_item f k (suc m) ms =
+    omega (arith, count_of_item f k m ms, count-cons f (k, m) (of_item k m ms), count-cons f (k, m) (of_item k m []))
 
-pub count_mark : (f : ℕ × ℕ → Bool) (k s sum more : ℕ) → sum ≡ count f (of_item k s []) → more ≡ sum + one (f (k, s)) → more ≡ count f (of_item k (s + 1) [])
-count_mark f k s sum more e d =
-    let step : count f (of_item k (s + 1) []) ≡ one (f (k, s)) + count f (of_item k s []) = ap (λ (r : ℕ). count f (of_item k r [])) (add-one s) in
-    omega (arith, step)
+pub count_mark : (f : ℕ × ℕ → Bool) (k s : ℕ) (b : Bool) → b ≡ f (k, s) → count_by f (of_item k (s + 1) []) ≡ one b + count_by f (of_item k s [])
+count_mark f k s b e = rw (add-one s, e) (count-cons f (k, s) (of_item k s []))
 
-pub count_item : (f : ℕ × ℕ → Bool) (m k sum more : ℕ) → sum ≡ count f (marks m k) → more ≡ count f (of_item k m []) → sum + more ≡ count f (marks m (k + 1))
-count_item f m k sum more e d =
-    let step : count f (marks m (k + 1)) ≡ count f (of_item k m (marks m k)) = ap (λ (r : ℕ). count f (marks m r)) (add-one k) in
-    omega (arith, step, count_of_item f k m (marks m k))
+pub count_item : (f : ℕ × ℕ → Bool) (m k sum more : ℕ) → sum ≡ count_by f (marks m k) → more ≡ count_by f (of_item k m []) → sum + more ≡ count_by f (marks m (k + 1))
+count_item f m k sum more e d = rw add-one (omega (arith, count_of_item f k m (marks m k)))

@@ -1,14 +1,13 @@
 -- Tables of sets of base relations, whose rule is proved over the whole table by one test that the checker computes.
-use Rattle.std.proofs.Common.{◌≡◌, ℕ, zero, suc, ◌+◌, ◌*◌, ◌%◌, ◌^◌, ◌<◌, ◌≤◌, Bool, false, cond, T, eqb, ltb, List, [], ◌∷◌, get_or, sym, refl, ap, ◌∙◌, inl, inr, arith, pow_mono}
+use Rattle.std.proofs.Common.{◌≡◌, ℕ, zero, suc, ◌+◌, ◌*◌, ◌%◌, ◌^◌, ◌<◌, ◌≤◌, Bool, false, cond, T, eqb, ltb, List, [], ◌∷◌, length, get_or, sym, refl, ap, ◌∙◌, inl, inr, arith, pow_mono}
 use Prim.Native.Nat.{Ordering}
 use native.Mathlib.Nat.{div-eq_of_lt}
 use Rattle.std.proofs.lemmas.Bool.{cases_lt, ltb-true}
 use Rattle.points.specs.Points.{same}
-use Rattle.points.specs.Ranks.{one}
 use Rattle.points.specs.Sets.{has}
 use Rattle.points.specs.Tests.{both, upto}
-use Rattle.points.specs.Marks.{set_for, drawn, Draws, mark_rank}
-use Rattle.points.specs.declared.axis.Axis.{Axis}
+use Rattle.points.specs.Marks.{order_of, drawn, Draws, mark_rank}
+use Rattle.points.specs.declared.axis.Order.{Order}
 use Rattle.points.proofs.Finite.{both_left, both_right, alike, alike_eq, true_from, upto_at}
 use Rattle.points.proofs.Compare.{same_eq}
 use Rattle.points.proofs.Marked.{mark_rank_same}
@@ -40,41 +39,43 @@ table_right b f table t beyond c d hc hd =
     set_right b (f c d) (table c d)
     (upto_at b (λ d. right_set b (f c d) (table c d)) (upto_at b (λ c. upto b (λ d. right_set b (f c d) (table c d))) t c hc) d hd) (beyond c d)
 
--- an axis whose sets of codes below b are right
-abbrev pub right_axis : ℕ → (ℕ → ℕ → ℕ → Ordering) → Axis → Bool
-right_axis b sides axis = upto axis.marks (λ s. upto axis.marks (λ t.
-    both (both (ltb (set_for axis.before s t) (2 ^ b)) (ltb (set_for axis.after s t) (2 ^ b)))
-    (upto b (λ c. same (drawn axis c s t) (sides c s t)))))
+-- an axis of m marks whose sets of codes below b are right
+abbrev right_order : ℕ → (ℕ → Ordering) → Order → Bool
+right_order b sides o = both (both (ltb o.before (2 ^ b)) (ltb o.after (2 ^ b)))
+    (upto b (λ c. same (cond (has o.before c) Ordering.lt (cond (has o.after c) Ordering.gt Ordering.eq)) (sides c)))
 
-pub axis_right : (b : ℕ) (sides : ℕ → ℕ → ℕ → Ordering) (axis : Axis) → T (right_axis b sides axis) → ((c s t : ℕ) → b ≤ c → sides c s t ≡ Ordering.eq) →
-    Draws axis axis.marks sides
-axis_right b sides axis test beyond = record { many = refl; stand = stand }
+abbrev pub right_axis : ℕ → ℕ → (ℕ → ℕ → ℕ → Ordering) → List (List Order) → Bool
+right_axis b m sides orders = upto m (λ s. upto m (λ t. right_order b (λ c. sides c s t) (order_of orders s t)))
+
+order_right : (b : ℕ) (sides : ℕ → Ordering) (o : Order) → T (right_order b sides o) → ((c : ℕ) → b ≤ c → sides c ≡ Ordering.eq) →
+    (c : ℕ) → cond (has o.before c) Ordering.lt (cond (has o.after c) Ordering.gt Ordering.eq) ≡ sides c
+order_right b sides o test beyond c =
+    let small : Bool = both (ltb o.before (2 ^ b)) (ltb o.after (2 ^ b)) in
+    let stand : ℕ → Ordering = λ c. cond (has o.before c) Ordering.lt (cond (has o.after c) Ordering.gt Ordering.eq) in
+    let sizes : T small = both_left small (upto b (λ c. same (stand c) (sides c))) test in
+    elim (cases_lt c b) [
+      | inl l ↦ same_eq (stand c) (sides c) (upto_at b (λ c. same (stand c) (sides c)) (both_right small (upto b (λ c. same (stand c) (sides c))) test) c l)
+      | inr l ↦
+          rw (
+            has_beyond o.before b c (ltb-true o.before (2 ^ b) (true_from (ltb o.before (2 ^ b)) (both_left (ltb o.before (2 ^ b)) (ltb o.after (2 ^ b)) sizes))) l,
+            has_beyond o.after b c (ltb-true o.after (2 ^ b) (true_from (ltb o.after (2 ^ b)) (both_right (ltb o.before (2 ^ b)) (ltb o.after (2 ^ b)) sizes))) l,
+          ) (sym (beyond c l))
+    ]
+
+pub axis_right : (b m : ℕ) (sides : ℕ → ℕ → ℕ → Ordering) (orders : List (List Order)) → length orders ≡ m → T (right_axis b m sides orders) →
+    ((c s t : ℕ) → b ≤ c → sides c s t ≡ Ordering.eq) → Draws orders m sides
+axis_right b m sides orders many test beyond = record { many = many; stand = stand }
   where
-    stand : (c s t : ℕ) → s < axis.marks → t < axis.marks → drawn axis c s t ≡ sides c s t
+    stand : (c s t : ℕ) → s < m → t < m → drawn orders c s t ≡ sides c s t
     stand c s t hs ht =
-        let before : ℕ = set_for axis.before s t in
-        let after : ℕ = set_for axis.after s t in
-        let small : Bool = both (ltb before (2 ^ b)) (ltb after (2 ^ b)) in
-        let inner : ℕ → Bool = λ t. both (both (ltb (set_for axis.before s t) (2 ^ b)) (ltb (set_for axis.after s t) (2 ^ b))) (upto b (λ c. same (drawn axis c s t) (sides c s t))) in
-        let here : T (both small (upto b (λ c. same (drawn axis c s t) (sides c s t)))) =
-        upto_at axis.marks inner
-        (upto_at axis.marks (λ s. upto axis.marks (λ t. both (both (ltb (set_for axis.before s t) (2 ^ b)) (ltb (set_for axis.after s t) (2 ^ b))) (upto b (λ c. same (drawn axis c s t) (sides c s t))))) test s hs) t ht in
-        let sizes : T small = both_left small (upto b (λ c. same (drawn axis c s t) (sides c s t))) here in
-        elim (cases_lt c b) [
-          | inl l ↦ same_eq (drawn axis c s t) (sides c s t) (upto_at b (λ c. same (drawn axis c s t) (sides c s t)) (both_right small (upto b (λ c. same (drawn axis c s t) (sides c s t))) here) c l)
-          | inr l ↦
-              ap (λ (p : Bool). cond p Ordering.lt (cond (has after c) Ordering.gt Ordering.eq))
-              (has_beyond before b c (ltb-true before (2 ^ b) (true_from (ltb before (2 ^ b)) (both_left (ltb before (2 ^ b)) (ltb after (2 ^ b)) sizes))) l)
-              ∙ ap (λ (p : Bool). cond p Ordering.gt Ordering.eq)
-              (has_beyond after b c (ltb-true after (2 ^ b) (true_from (ltb after (2 ^ b)) (both_right (ltb before (2 ^ b)) (ltb after (2 ^ b)) sizes))) l)
-              ∙ sym (beyond c s t l)
-        ]
+        order_right b (λ c. sides c s t) (order_of orders s t)
+        (upto_at m (λ t. right_order b (λ c. sides c s t) (order_of orders s t))
+        (upto_at m (λ s. upto m (λ t. right_order b (λ c. sides c s t) (order_of orders s t))) test s hs) t ht) (λ c l. beyond c s t l) c
 
 -- ranks on an axis that is drawn right
-pub rank_drawn : (axis : Axis) (m : ℕ) (sides : ℕ → ℕ → ℕ → Ordering) → Draws axis m sides → (n : ℕ) (scenario : List ℕ) (i s : ℕ) → s < m →
-    mark_rank (drawn axis) axis.marks n scenario i s ≡ mark_rank sides m n scenario i s
-rank_drawn axis m sides h n scenario i s l =
-    ap (λ (k : ℕ). mark_rank (drawn axis) k n scenario i s) h.many ∙ mark_rank_same (drawn axis) sides m h.stand n scenario i s l
+pub rank_drawn : (orders : List (List Order)) (m : ℕ) (sides : ℕ → ℕ → ℕ → Ordering) → Draws orders m sides → (n : ℕ) (scenario : List ℕ) (i s : ℕ) → s < m →
+    mark_rank (drawn orders) m n scenario i s ≡ mark_rank sides m n scenario i s
+rank_drawn orders m sides h n scenario i s l = mark_rank_same (drawn orders) sides m h.stand n scenario i s l
 
 -- the right table, computed: the checker holds a constant of the code against it, so that no table is written twice
 abbrev pub listed : {A : Type 0} → ℕ → ℕ → (ℕ → A) → List A
@@ -83,7 +84,7 @@ listed i (suc n) f = f i ∷ listed (suc i) n f
 
 abbrev pub set_of : (ℕ → Bool) → ℕ → ℕ
 set_of f zero = 0
-set_of f (suc e) = one (f e) * 2 ^ e + set_of f e
+set_of f (suc e) = cond (f e) (2 ^ e) 0 + set_of f e
 
 abbrev pub computed : ℕ → (ℕ → ℕ → ℕ → Bool) → List (List ℕ)
 computed b f = listed 0 b (λ c. listed 0 b (λ d. set_of (f c d) b))

@@ -1,12 +1,12 @@
 -- Marks on an axis. Each item has the same number of marks there, 0, 1, .., in ascending order: a moment has one on its line,
 -- a spell has its start and its end, a dwelling has one on each of two axes. A mark is an item and a number: (i, s).
-use Rattle.std.specs.Prelude.{◌≡◌, ℕ, zero, suc, ◌<◌, cond, List, [], ◌∷◌, nat_lt, slice_index, slice_index_or}
+use Rattle.std.specs.Prelude.{◌≡◌, ℕ, zero, suc, ◌<◌, cond, List, [], ◌∷◌, length, slice_index_or}
 use Prim.Native.Nat.{Ordering, compare}
 use Rattle.points.specs.Points.{converse}
 use Rattle.points.specs.Sets.{has}
 use Rattle.points.specs.Scenarios.{entry}
 use Rattle.points.specs.Ranks.{rank}
-use Rattle.points.specs.declared.axis.Axis.{Axis}
+use Rattle.points.specs.declared.axis.Order.{Order}
 
 -- the m marks of item k, ahead of others
 abbrev pub of_item : ℕ → ℕ → List (ℕ × ℕ) → List (ℕ × ℕ)
@@ -38,17 +38,17 @@ in_scenario sides scenario i j s t = sides (entry scenario i j) s t
 abbrev pub mark_rank : (ℕ → ℕ → ℕ → Ordering) → ℕ → ℕ → List ℕ → ℕ → ℕ → ℕ
 mark_rank sides m n scenario i s = rank (stands (in_scenario sides scenario)) (marks m n) (i, s)
 
--- the set for two marks in a table of two rows of two, or the empty set
-abbrev pub set_for : List (List ℕ) → ℕ → ℕ → ℕ
-set_for table s t = cond (nat_lt s 2) (cond (nat_lt t 2) (slice_index (slice_index_or table s []) t) 0) 0
+-- the order of two marks in a table of rows, or that of two empty sets
+abbrev pub order_of : List (List Order) → ℕ → ℕ → Order
+order_of table s t = slice_index_or (slice_index_or table s []) t (record { before = 0; after = 0 })
 
 -- What an axis says of two marks: before under the codes of one set, after under the others of the other set, equal under the rest.
-abbrev pub drawn : Axis → ℕ → ℕ → ℕ → Ordering
-drawn axis c s t =
-    cond (has (set_for axis.before s t) c) Ordering.lt
-    (cond (has (set_for axis.after s t) c) Ordering.gt Ordering.eq)
+abbrev pub drawn : List (List Order) → ℕ → ℕ → ℕ → Ordering
+drawn orders c s t =
+    let order = order_of orders s t in
+    cond (has order.before c) Ordering.lt (cond (has order.after c) Ordering.gt Ordering.eq)
 
 -- The axis has m marks an item, which stand as `sides` says.
-pub record Draws (axis : Axis) (m : ℕ) (sides : ℕ → ℕ → ℕ → Ordering) : Type 0 where
-  pub many : axis.marks ≡ m
-  pub stand : (c s t : ℕ) → s < m → t < m → drawn axis c s t ≡ sides c s t
+pub record Draws (orders : List (List Order)) (m : ℕ) (sides : ℕ → ℕ → ℕ → Ordering) : Type 0 where
+  pub many : length orders ≡ m
+  pub stand : (c s t : ℕ) → s < m → t < m → drawn orders c s t ≡ sides c s t

@@ -1,6 +1,8 @@
 -- The point algebra: how one point of a line stands to another. `Ordering` has its three base relations, lt, eq and gt.
 use Rattle.std.specs.Prelude.{◌≡◌, ℕ, ◌<◌, Bool, true, false}
 use Prim.Native.Nat.{Ordering}
+use Rattle.std.specs.declared.cmp.Ordering.{Ordering as Answer}
+use Rattle.std.specs.declared.cmp.Ordering.TheVariants.{Less, Equal, Greater}
 
 -- what a base relation says of two numbers
 abbrev pub Says : Ordering → ℕ → ℕ → Type 0
@@ -13,6 +15,12 @@ abbrev pub converse : Ordering → Ordering
 converse Ordering.lt = Ordering.gt
 converse Ordering.eq = Ordering.eq
 converse Ordering.gt = Ordering.lt
+
+-- a base relation, as the code tells it
+abbrev pub told : Ordering → Answer
+told Ordering.lt = Less
+told Ordering.eq = Equal
+told Ordering.gt = Greater
 
 abbrev pub is_lt : Ordering → Bool
 is_lt Ordering.lt = true

@@ -1,16 +1,7 @@
 -- The rank of a mark: how many marks of a list stand strictly before it.
-use Rattle.std.specs.Prelude.{◌≡◌, ℕ, ◌+◌, Bool, true, false, T, ◌⊎◌, List, [], ◌∷◌}
+use Rattle.std.specs.Prelude.{◌≡◌, ℕ, T, ◌⊎◌, List, [], ◌∷◌, count_by}
 use Prim.Native.Nat.{Ordering, compare}
 use Rattle.points.specs.Points.{converse, is_lt, compose}
-
-abbrev pub one : Bool → ℕ
-one true = 1
-one false = 0
-
--- how many of the list pass the test
-abbrev pub count : {A : Type 0} → (A → Bool) → List A → ℕ
-count f [] = 0
-count f (x ∷ xs) = one (f x) + count f xs
 
 -- x stands in the list
 abbrev pub Has : {A : Type 0} → A → List A → Type 0
@@ -18,7 +9,7 @@ Has x [] = ⊥
 Has x (y ∷ ys) = (x ≡ y) ⊎ Has x ys
 
 abbrev pub rank : {A : Type 0} → (A → A → Ordering) → List A → A → ℕ
-rank cmp xs x = count (λ y. is_lt (cmp y x)) xs
+rank cmp xs x = count_by (λ y. is_lt (cmp y x)) xs
 
 -- A comparison of the marks of a list that points of a line could have: turned round it is the converse, and each triple fits.
 pub record Consistent {A : Type 0} (cmp : A → A → Ordering) (xs : List A) : Type 0 where

@@ -1,68 +1,77 @@
 // The marks of items on an axis, and their ranks.
-ghost use Rattle.std.specs.Prelude.{◌≡◌, ℕ, ◌≤◌, []};
-ghost use Rattle.points.specs.Points.{converse, is_lt};
-ghost use Rattle.points.specs.Ranks.{count, RankLemma};
-ghost use Rattle.points.specs.Marks.{stands, in_scenario, of_item, mark_rank, set_for, drawn};
+ghost use Rattle.std.specs.Prelude.{◌≡◌, ℕ, ◌≤◌, [], count_by};
+ghost use Rattle.points.specs.Points.{is_lt, told};
+ghost use Rattle.points.specs.Ranks.{RankLemma};
+ghost use Rattle.points.specs.Marks.{stands, in_scenario, of_item, mark_rank, order_of, drawn};
 
 use crate::scenario::entry;
 use crate::set::contains;
+use std::cmp::Ordering;
 
-/// An axis on which each item has `marks` marks, one or two, in ascending order. Mark s of an item stands before mark t of a later
-/// item under the codes of the set before[s][t], after it under the other codes of after[s][t], and where it is under the rest.
+/// How a mark of one item stands to a mark of a later item: before it under the codes of one set, after it under the other codes of
+/// the other set, and where it is under the rest.
 #[derive(Clone, Copy)]
-pub struct Axis {
-    pub marks: u8,
-    pub before: [[u64; 2]; 2],
-    pub after: [[u64; 2]; 2],
+pub struct Order {
+    pub before: u64,
+    pub after: u64,
 }
 
-// The set for two marks, or the empty set where there are none such.
-fn set_of(table: &[[u64; 2]; 2], s: u8, t: u8) -> u64
-    ensures { result ≡ set_for table.now s t }
-{
-    if s < 2 && t < 2 {
-        table[s as usize][t as usize]
-    } else {
-        0
-    }
+/// An axis on which each item has MARKS marks, in ascending order: orders[s][t] says how mark s of an item stands to mark t of a
+/// later item.
+#[derive(Clone, Copy)]
+pub struct Axis<const MARKS: usize> {
+    pub orders: [[Order; MARKS]; MARKS],
+    ghost few: { MARKS ≤ 255 },
 }
 
-impl Axis {
-    // Whether mark s of the first item stands before mark t of the second under the code.
-    fn is_before(&self, code: u8, s: u8, t: u8) -> bool
-        ensures { result ≡ is_lt (drawn self.now code s t) }
+impl<const MARKS: usize> Axis<MARKS> {
+    // How mark s of an item stands to mark t of a later one; under no code apart where there are no such marks.
+    fn order(&self, s: usize, t: usize) -> Order
+        ensures { result ≡ order_of self.now.orders s t }
     {
-        contains(set_of(&self.before, s, t), code)
+        let apart = Order {
+            before: 0,
+            after: 0,
+        };
+        match self.orders.get(s) {
+            Some(row) => row.get(t).copied().unwrap_or(apart),
+            None => apart,
+        }
     }
 
-    // Whether mark s of the first item stands after mark t of the second under the code.
-    fn is_after(&self, code: u8, s: u8, t: u8) -> bool
-        ensures { result ≡ is_lt (converse (drawn self.now code s t)) }
+    // How mark s of an item stands to mark t of a later one under the code.
+    fn compare(&self, code: u8, s: usize, t: usize) -> Ordering
+        ensures { result ≡ told (drawn self.now.orders code s t) }
     {
-        !self.is_before(code, s, t) && contains(set_of(&self.after, s, t), code)
-    }
-
-    // Whether mark s of item k stands before mark t of item i in the scenario.
-    fn precedes(&self, scenario: &[u8], k: u8, s: u8, i: u8, t: u8) -> bool
-        ensures { result ≡ is_lt (stands (in_scenario (drawn self.now) scenario.now) (k, s) (i, t)) }
-    {
-        if k < i {
-            self.is_before(entry(scenario, k, i), s, t)
-        } else if i < k {
-            self.is_after(entry(scenario, i, k), t, s)
+        let order = self.order(s, t);
+        if contains(order.before, code) {
+            Ordering::Less
+        } else if contains(order.after, code) {
+            Ordering::Greater
         } else {
-            s < t
+            Ordering::Equal
+        }
+    }
+
+    // How mark s of item k stands to mark t of item i in the scenario.
+    fn stands(&self, scenario: &[u8], k: u8, s: usize, i: u8, t: usize) -> Ordering
+        ensures { result ≡ told (stands (in_scenario (drawn self.now.orders) scenario.now) (k, s) (i, t)) }
+    {
+        match k.cmp(&i) {
+            Ordering::Less => self.compare(entry(scenario, k, i), s, t),
+            Ordering::Equal => s.cmp(&t),
+            Ordering::Greater => self.compare(entry(scenario, i, k), t, s).reverse(),
         }
     }
 
     // How many marks of item k stand before mark t of item i in the scenario.
-    fn preceding(&self, scenario: &[u8], k: u8, i: u8, t: u8) -> u32
-        ensures is { result ≡ count (λ y. is_lt (stands (in_scenario (drawn self.now) scenario.now) y (i, t))) (of_item k self.now.marks []) }
+    fn preceding(&self, scenario: &[u8], k: u8, i: u8, t: usize) -> u32
+        ensures is { result ≡ count_by (λ y. is_lt (stands (in_scenario (drawn self.now.orders) scenario.now) y (i, t))) (of_item k MARKS []) }
         ensures few { result ≤ 255 }
     {
         let mut sum = 0;
-        for s in 0..self.marks {
-            if self.precedes(scenario, k, s, i, t) {
+        for s in 0..MARKS {
+            if self.stands(scenario, k, s, i, t).is_lt() {
                 sum += 1;
             }
         }
@@ -73,11 +82,11 @@ impl Axis {
     /// ranks compare as the marks do, for any number of marks and any consistent comparison.
     pub fn rank(&self, items: u8, scenario: &[u8], i: u8, t: u8) -> u32
         ensures compares { RankLemma (ℕ × ℕ) }
-        ensures is { result ≡ mark_rank (drawn self.now) self.now.marks items scenario.now i t }
+        ensures is { result ≡ mark_rank (drawn self.now.orders) MARKS items scenario.now i t }
     {
         let mut sum = 0;
         for k in 0..items {
-            sum += self.preceding(scenario, k, i, t);
+            sum += self.preceding(scenario, k, i, usize::from(t));
         }
         sum
     }

@@ -21,6 +21,5 @@ pub fn place(i: u8, j: u8) -> usize
 pub fn entry(scenario: &[u8], i: u8, j: u8) -> u8
     ensures { result ≡ entry_of scenario.now i j }
 {
-    let p = place(i, j);
-    if p < scenario.len() { scenario[p] } else { 0 }
+    scenario.get(place(i, j)).copied().unwrap_or(0)
 }

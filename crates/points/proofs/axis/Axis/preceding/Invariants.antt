@@ -1,8 +1,8 @@
-use Rattle.std.proofs.Common.{◌≡◌, ◌≤◌, []}
+use Rattle.std.proofs.Common.{◌≡◌, ◌≤◌, [], count_by}
 use Rattle.points.specs.Points.{is_lt}
-use Rattle.points.specs.Ranks.{count}
 use Rattle.points.specs.Marks.{of_item, stands, in_scenario, drawn}
 use Rattle.points.proofs.axis.Axis.preceding.Given as goal
 
 abbrev pub invariant-loop-s : goal.invariant-loop-s
-invariant-loop-s l = (l.sum ≤ l.s) × (l.sum ≡ count (λ y. is_lt (stands (in_scenario (drawn l.self) l.scenario) y (l.i, l.t))) (of_item l.k l.s []))
+invariant-loop-s g l =
+    (l.sum ≤ l.s) × (l.sum ≡ count_by (λ y. is_lt (stands (in_scenario (drawn l.self.orders) l.scenario) y (l.i, l.t))) (of_item l.k l.s []))
