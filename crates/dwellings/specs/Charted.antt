@@ -1,8 +1,7 @@
 -- Dwellings are one mark on each of two axes.
-use Rattle.std.specs.Prelude.{◌≡◌, ℕ, zero, suc, ◌<◌, ◌≤◌, Bool, T, nat_lt, refl}
-use Rattle.std.proofs.Common.{ap, arith, not-suc-le-zero, le_of_suc-le-suc}
+use Rattle.std.specs.Prelude.{◌≡◌, ℕ, zero, suc, ◌<◌, Bool, T, nat_lt, refl}
+use Rattle.std.proofs.Common.{arith, not-suc-le-zero, le_of_suc-le-suc}
 use Prim.Native.Nat.{Ordering, compare}
-use Rattle.std.proofs.lemmas.List.{get_or_past}
 use Rattle.std.proofs.lemmas.Bool.{ltb-true}
 use Rattle.points.specs.Points.{Says, same as alike}
 use Rattle.points.specs.Tests.{both}
@@ -10,7 +9,7 @@ use Rattle.points.proofs.Finite.{both_left, both_right, true_from, every, every_
 use Rattle.points.proofs.Compare.{said, says, same_eq, compare_self}
 use Rattle.dwellings.specs.declared.Dwelling.{Dwelling}
 use Rattle.kinds.specs.Meaning.{Realisation}
-use Rattle.dwellings.specs.Dwellings.{Direction, same, north, north_east, east, south_east, south, south_west, west, north_west, Holds, directions, coded, code, dwellings, eastward, northward, along, compass, dwelling}
+use Rattle.dwellings.specs.Dwellings.{Direction, same, north, north_east, east, south_east, south, south_west, west, north_west, Holds, coded, code, dwellings, eastward, northward, along, compass, dwelling}
 use Rattle.kinds.proofs.Framed.{Frame, realises}
 
 -- a direction by its two comparisons
@@ -61,12 +60,6 @@ code_northward o p =
     same_eq p (northward (coded (code o p)))
     (both_right (alike o (eastward (coded (code o p)))) (alike p (northward (coded (code o p))))
     (both_right (nat_lt (code o p) 9) (both (alike o (eastward (coded (code o p)))) (alike p (northward (coded (code o p))))) (all_told o p)))
-
-pub eastward_beyond : (c : ℕ) → 9 ≤ c → eastward (coded c) ≡ Ordering.eq
-eastward_beyond c h = ap eastward (get_or_past directions c same h)
-
-pub northward_beyond : (c : ℕ) → 9 ≤ c → northward (coded c) ≡ Ordering.eq
-northward_beyond c h = ap northward (get_or_past directions c same h)
 
 abbrev number : Dwelling → ℕ → ℕ → ℕ
 number v zero s = v.east

@@ -1,9 +1,7 @@
 // The kind D: dwellings, with the cardinal directions.
 #![tactic(auto)]
 
-ghost use Rattle.std.specs.Prelude.{◌≡◌, ℕ};
-ghost use Rattle.points.specs.Marks.{Draws};
-ghost use Rattle.points.specs.Sets.{has};
+ghost use Rattle.std.specs.Prelude.{refl};
 ghost use Rattle.kinds.specs.Layouts.{fit};
 ghost use Rattle.dwellings.specs.Dwellings.{dwelling_words, dwellings, compass, dwelling};
 ghost use Rattle.kinds.proofs.Framed.{laws};
@@ -13,7 +11,8 @@ ghost use Rattle.kinds.proofs.Worded;
 
 use kinds::kind::Kind;
 use kinds::notation::Notation;
-use points::axis::Axis;
+use kinds::table::{Row, look_up};
+use points::axis::{Axis, Order};
 use points::set::contains;
 use std::cmp::Ordering;
 
@@ -49,103 +48,113 @@ const NW: u64 = 1 << 8;
 const ALL: u64 = EQ | N | NE | E | SE | S | SW | W | NW;
 
 // The composition table: a row for each first relation, an entry for each second one, in the order of the codes.
-const TABLE: [[u64; 9]; 9] = [
-    [EQ, N, NE, E, SE, S, SW, W, NW],
-    [N, N, NE, NE, NE | E | SE, EQ | N | S, SW | W | NW, NW, NW],
-    [
-        NE,
-        NE,
-        NE,
-        NE,
-        NE | E | SE,
-        NE | E | SE,
-        ALL,
-        N | NE | NW,
-        N | NE | NW,
-    ],
-    [E, NE, NE, E, SE, SE, SE | S | SW, EQ | E | W, N | NE | NW],
-    [
-        SE,
-        NE | E | SE,
-        NE | E | SE,
-        SE,
-        SE,
-        SE,
-        SE | S | SW,
-        SE | S | SW,
-        ALL,
-    ],
-    [S, EQ | N | S, NE | E | SE, SE, SE, S, SW, SW, SW | W | NW],
-    [
-        SW,
-        SW | W | NW,
-        ALL,
-        SE | S | SW,
-        SE | S | SW,
-        SW,
-        SW,
-        SW,
-        SW | W | NW,
-    ],
-    [W, NW, N | NE | NW, EQ | E | W, SE | S | SW, SW, SW, W, NW],
-    [
-        NW,
-        NW,
-        N | NE | NW,
-        N | NE | NW,
-        ALL,
-        SW | W | NW,
-        SW | W | NW,
-        NW,
-        NW,
-    ],
+const TABLE: [Row<9>; 9] = [
+    // eq
+    Row {
+        masks: [EQ, N, NE, E, SE, S, SW, W, NW],
+    },
+    // n
+    Row {
+        masks: [N, N, NE, NE, NE | E | SE, EQ | N | S, SW | W | NW, NW, NW],
+    },
+    // ne
+    Row {
+        masks: [
+            NE,
+            NE,
+            NE,
+            NE,
+            NE | E | SE,
+            NE | E | SE,
+            ALL,
+            N | NE | NW,
+            N | NE | NW,
+        ],
+    },
+    // e
+    Row {
+        masks: [E, NE, NE, E, SE, SE, SE | S | SW, EQ | E | W, N | NE | NW],
+    },
+    // se
+    Row {
+        masks: [
+            SE,
+            NE | E | SE,
+            NE | E | SE,
+            SE,
+            SE,
+            SE,
+            SE | S | SW,
+            SE | S | SW,
+            ALL,
+        ],
+    },
+    // s
+    Row {
+        masks: [S, EQ | N | S, NE | E | SE, SE, SE, S, SW, SW, SW | W | NW],
+    },
+    // sw
+    Row {
+        masks: [
+            SW,
+            SW | W | NW,
+            ALL,
+            SE | S | SW,
+            SE | S | SW,
+            SW,
+            SW,
+            SW,
+            SW | W | NW,
+        ],
+    },
+    // w
+    Row {
+        masks: [W, NW, N | NE | NW, EQ | E | W, SE | S | SW, SW, SW, W, NW],
+    },
+    // nw
+    Row {
+        masks: [
+            NW,
+            NW,
+            N | NE | NW,
+            N | NE | NW,
+            ALL,
+            SW | W | NW,
+            SW | W | NW,
+            NW,
+            NW,
+        ],
+    },
 ];
 
-// The composition of two base relations, by the table; empty where one is no code.
-fn composed(c: u8, d: u8) -> u64
-    ensures { (e : ℕ) → has result e ≡ fit compass c d e }
-{
-    if c < 9 && d < 9 {
-        TABLE[c as usize][d as usize]
-    } else {
-        0
-    }
-}
-
-const EASTWARD: Axis = Axis {
-    marks: 1,
-    before: [[SW | W | NW, 0], [0, 0]],
-    after: [[NE | E | SE, 0], [0, 0]],
+const EASTWARD: Axis<1> = Axis {
+    orders: [[Order {
+        before: SW | W | NW,
+        after: NE | E | SE,
+    }]],
 };
 
-const NORTHWARD: Axis = Axis {
-    marks: 1,
-    before: [[SE | S | SW, 0], [0, 0]],
-    after: [[N | NE | NW, 0], [0, 0]],
+const NORTHWARD: Axis<1> = Axis {
+    orders: [[Order {
+        before: SE | S | SW,
+        after: N | NE | NW,
+    }]],
 };
-
-fn eastward() -> Axis
-    ensures { Draws result 1 (compass.side 0) }
-{
-    EASTWARD
-}
-
-fn northward() -> Axis
-    ensures { Draws result 1 (compass.side 1) }
-{
-    NORTHWARD
-}
 
 impl Kind for Dwellings {
     type Value = Dwelling;
 
     const CODES: u8 = 9;
 
+    ghost CODES = { 9 };
+
     ghost meaning = { dwellings };
 
     ghost fit = { fit compass };
 
     ghost values = { dwelling };
+
+    ghost counted = { refl };
 
     ghost lawful = { laws dwellings compass charted };
 
@@ -154,10 +163,6 @@ impl Kind for Dwellings {
     ghost composes = { Framed.composes dwellings compass charted };
 
     ghost realises = { dwellings_realise };
-
-    fn count() -> u8 {
-        Self::CODES
-    }
 
     fn relation(first: Dwelling, second: Dwelling) -> u8 {
         match (first.east.cmp(&second.east), first.north.cmp(&second.north)) {
@@ -182,13 +187,13 @@ impl Kind for Dwellings {
     }
 
     fn fits(c: u8, d: u8, e: u8) -> bool {
-        contains(composed(c, d), e)
+        contains(look_up(&TABLE, c, d), e)
     }
 
     fn value(items: u8, scenario: &[u8], item: u8) -> Dwelling {
         Dwelling {
-            east: eastward().rank(items, scenario, item, 0),
-            north: northward().rank(items, scenario, item, 0),
+            east: EASTWARD.rank(items, scenario, item, 0),
+            north: NORTHWARD.rank(items, scenario, item, 0),
         }
     }
 }

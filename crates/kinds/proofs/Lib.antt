@@ -2,3 +2,4 @@ pub mod Paged
 pub mod Framed
 pub mod Composed
 pub mod Worded
+pub mod Tabled

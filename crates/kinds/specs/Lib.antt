@@ -3,3 +3,4 @@ pub mod Pages
 pub mod Layouts
 pub mod Composition
 pub mod Words
+pub mod Tables

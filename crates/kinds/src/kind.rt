@@ -11,6 +11,9 @@ pub trait Kind {
     /// How many base relations there are, 1 to 64.
     const CODES: u8;
 
+    /// The same number, for the clauses.
+    ghost CODES: { ℕ };
+
     /// Lawful values, and the base relation that holds from one to another.
     ghost meaning: { Meaning Self.Value };
 
@@ -22,7 +25,10 @@ pub trait Kind {
 
     /// The number of base relations.
     fn count() -> u8
-        ensures { result ≡ meaning.codes };
+        ensures { result ≡ meaning.codes }
+    {
+        Self::CODES
+    }
 
     /// The code of the base relation from the first value to the second. For values that are not lawful it is the number that the
     /// kind's definition gives.
@@ -49,12 +55,15 @@ pub trait Kind {
         ensures written { Written items (values items scenario.now) page.old page.new }
         ensures realised { 1 ≤ items → items ≤ 12 → items ≤ length page.old → Fitting meaning items scenario.now → (other : Self.Value) → Realises meaning items scenario.now (λ i. slice_index_or page.new i other) }
     {
-        for i in 0..items {
-            if (i as usize) < page.len() {
-                page[i as usize] = Self::value(items, scenario, i);
+        for (i, place) in page.iter_mut().enumerate() {
+            if i < usize::from(items) {
+                *place = Self::value(items, scenario, i as u8);
             }
         }
     }
+
+    /// The codes are those that are meant.
+    ghost counted: { CODES ≡ meaning.codes };
 
     /// Exactly one base relation holds; code 0 from a value to itself; the converse the other way.
     ghost lawful: { Laws meaning };

@@ -4,3 +4,4 @@
 pub mod composition;
 pub mod kind;
 pub mod notation;
+pub mod table;

@@ -1,8 +1,7 @@
 -- Moments are one mark on one line.
-use Rattle.std.specs.Prelude.{◌≡◌, ℕ, zero, suc, ◌<◌, ◌≤◌, [], ◌∷◌, refl}
+use Rattle.std.specs.Prelude.{◌≡◌, ℕ, zero, suc, ◌<◌, refl}
 use Rattle.std.proofs.Common.{arith, not-suc-le-zero, le_of_suc-le-suc}
 use Prim.Native.Nat.{Ordering, compare}
-use Rattle.std.proofs.lemmas.List.{get_or_past}
 use Rattle.points.proofs.Compare.{said, says, compare_self}
 use Rattle.moments.specs.declared.Moment.{Moment}
 use Rattle.kinds.specs.Meaning.{Realisation}
@@ -18,9 +17,6 @@ code_below : (o : Ordering) → code o < 3
 code_below Ordering.lt = omega arith
 code_below Ordering.eq = omega arith
 code_below Ordering.gt = omega arith
-
-pub coded_beyond : (c : ℕ) → 3 ≤ c → coded c ≡ Ordering.eq
-coded_beyond c h = get_or_past (Ordering.eq ∷ Ordering.lt ∷ Ordering.gt ∷ []) c Ordering.eq h
 
 pub timed : Frame moments line
 timed = record {

@@ -1,9 +1,7 @@
 // The kind M: moments, with the base relations of the point algebra.
 #![tactic(auto)]
 
-ghost use Rattle.std.specs.Prelude.{◌≡◌, ℕ};
-ghost use Rattle.points.specs.Marks.{Draws};
-ghost use Rattle.points.specs.Sets.{has};
+ghost use Rattle.std.specs.Prelude.{refl};
 ghost use Rattle.kinds.specs.Layouts.{fit};
 ghost use Rattle.moments.specs.Moments.{moment_words, moments, line as line_layout, moment};
 ghost use Rattle.kinds.proofs.Framed.{laws};
@@ -13,7 +11,8 @@ ghost use Rattle.kinds.proofs.Worded;
 
 use kinds::kind::Kind;
 use kinds::notation::Notation;
-use points::axis::Axis;
+use kinds::table::{Row, look_up};
+use points::axis::{Axis, Order};
 use points::set::contains;
 use std::cmp::Ordering;
 
@@ -33,41 +32,40 @@ const LT: u64 = 1 << 1;
 
 const GT: u64 = 1 << 2;
 
-const TABLE: [[u64; 3]; 3] = [[EQ, LT, GT], [LT, LT, EQ | LT | GT], [GT, EQ | LT | GT, GT]];
+// The composition table: a row for each first relation, a set for each second one, in the order of the codes.
+const TABLE: [Row<3>; 3] = [
+    Row {
+        masks: [EQ, LT, GT],
+    },
+    Row {
+        masks: [LT, LT, EQ | LT | GT],
+    },
+    Row {
+        masks: [GT, EQ | LT | GT, GT],
+    },
+];
 
-// The composition of two base relations, by the table; empty where one is no code.
-fn composed(c: u8, d: u8) -> u64
-    ensures { (e : ℕ) → has result e ≡ fit line_layout c d e }
-{
-    if c < 3 && d < 3 {
-        TABLE[c as usize][d as usize]
-    } else {
-        0
-    }
-}
-
-const LINE: Axis = Axis {
-    marks: 1,
-    before: [[LT, 0], [0, 0]],
-    after: [[GT, 0], [0, 0]],
+const LINE: Axis<1> = Axis {
+    orders: [[Order {
+        before: LT,
+        after: GT,
+    }]],
 };
-
-fn line() -> Axis
-    ensures { Draws result 1 (line_layout.side 0) }
-{
-    LINE
-}
 
 impl Kind for Moments {
     type Value = Moment;
 
     const CODES: u8 = 3;
 
+    ghost CODES = { 3 };
+
     ghost meaning = { moments };
 
     ghost fit = { fit line_layout };
 
     ghost values = { moment };
+
+    ghost counted = { refl };
 
     ghost lawful = { laws moments line_layout timed };
 
@@ -76,10 +74,6 @@ impl Kind for Moments {
     ghost composes = { Framed.composes moments line_layout timed };
 
     ghost realises = { moments_realise };
-
-    fn count() -> u8 {
-        Self::CODES
-    }
 
     fn relation(first: Moment, second: Moment) -> u8 {
         match first.at.cmp(&second.at) {
@@ -98,12 +92,12 @@ impl Kind for Moments {
     }
 
     fn fits(c: u8, d: u8, e: u8) -> bool {
-        contains(composed(c, d), e)
+        contains(look_up(&TABLE, c, d), e)
     }
 
     fn value(items: u8, scenario: &[u8], item: u8) -> Moment {
         Moment {
-            at: line().rank(items, scenario, item, 0),
+            at: LINE.rank(items, scenario, item, 0),
         }
     }
 }

@@ -1,9 +1,9 @@
 -- Tables of sets of base relations, whose rule is proved over the whole table by one test that the checker computes.
-use Rattle.std.proofs.Common.{◌≡◌, ℕ, zero, suc, ◌+◌, ◌*◌, ◌%◌, ◌^◌, ◌<◌, ◌≤◌, Bool, false, cond, T, eqb, ltb, List, [], ◌∷◌, length, get_or, sym, refl, ap, ◌∙◌, inl, inr, arith, pow_mono}
+use Rattle.std.proofs.Common.{◌≡◌, ℕ, zero, suc, ◌+◌, ◌%◌, ◌^◌, ◌<◌, ◌≤◌, Bool, false, cond, T, eqb, ltb, List, [], ◌∷◌, length, get_or, sym, refl, ap, ◌∙◌, inl, inr, arith, pow_mono, not-suc-le-zero, le_of_suc-le-suc}
 use Prim.Native.Nat.{Ordering}
 use native.Mathlib.Nat.{div-eq_of_lt}
 use Rattle.std.proofs.lemmas.Bool.{cases_lt, ltb-true}
-use Rattle.points.specs.Points.{same}
+use Rattle.points.specs.Points.{converse, is_lt, same}
 use Rattle.points.specs.Sets.{has}
 use Rattle.points.specs.Tests.{both, upto}
 use Rattle.points.specs.Marks.{order_of, drawn, Draws, mark_rank}
@@ -86,8 +86,23 @@ abbrev pub set_of : (ℕ → Bool) → ℕ → ℕ
 set_of f zero = 0
 set_of f (suc e) = cond (f e) (2 ^ e) 0 + set_of f e
 
-abbrev pub computed : ℕ → (ℕ → ℕ → ℕ → Bool) → List (List ℕ)
-computed b f = listed 0 b (λ c. listed 0 b (λ d. set_of (f c d) b))
+-- the right axis of m marks, computed
+abbrev pub orders : ℕ → ℕ → (ℕ → ℕ → ℕ → Ordering) → List (List Order)
+orders b m sides = listed 0 m (λ s. listed 0 m (λ t.
+    record { before = set_of (λ c. is_lt (sides c s t)) b; after = set_of (λ c. is_lt (converse (sides c s t))) b }))
 
-abbrev pub look : List (List ℕ) → ℕ → ℕ → ℕ
-look table c d = get_or (get_or table c []) d 0
+pub length_listed : {A : Type 0} (i n : ℕ) (f : ℕ → A) → length (listed i n f) ≡ n
+length_listed i zero f = refl
+length_listed i (suc n) f = ap suc (length_listed (suc i) n f)
+
+pub get_or-listed : {A : Type 0} (i n : ℕ) (f : ℕ → A) (k : ℕ) (other : A) → k < n → get_or (listed i n f) k other ≡ f (i + k)
+get_or-listed i zero f k other h = absurd (not-suc-le-zero h)
+get_or-listed i (suc n) f zero other h = ap f (omega arith)
+get_or-listed i (suc n) f (suc k) other h = get_or-listed (suc i) n f k other (le_of_suc-le-suc h) ∙ ap f (omega arith)
+
+-- ranks on the right axis, where the test of it passes and a number that is no code puts all marks in one place
+pub rank_right : (b m : ℕ) (sides : ℕ → ℕ → ℕ → Ordering) → T (right_axis b m sides (orders b m sides)) → ((c s t : ℕ) → b ≤ c → sides c s t ≡ Ordering.eq) →
+    (n : ℕ) (scenario : List ℕ) (i s : ℕ) → s < m → mark_rank (drawn (orders b m sides)) m n scenario i s ≡ mark_rank sides m n scenario i s
+rank_right b m sides test beyond =
+    rank_drawn (orders b m sides) m sides (axis_right b m sides (orders b m sides) (length_listed 0 m (λ s. listed 0 m (λ t.
+    record { before = set_of (λ c. is_lt (sides c s t)) b; after = set_of (λ c. is_lt (converse (sides c s t))) b }))) test beyond)

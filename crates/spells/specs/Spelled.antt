@@ -1,8 +1,8 @@
 -- Spells are two marks on one line.
-use Rattle.std.specs.Prelude.{◌≡◌, ℕ, zero, suc, ◌<◌, ◌≤◌, Bool, T, map, get_or, slice_index_or, refl}
+use Rattle.std.specs.Prelude.{◌≡◌, ℕ, zero, suc, ◌<◌, Bool, T, map, get_or, slice_index_or, refl}
 use Rattle.std.proofs.Common.{sym, ap, ◌∙◌, subst, arith, not-suc-le-zero, le_of_suc-le-suc}
 use Prim.Native.Nat.{Ordering, compare}
-use Rattle.std.proofs.lemmas.List.{get_or_past, get_or-map}
+use Rattle.std.proofs.lemmas.List.{get_or-map}
 use Rattle.points.specs.Points.{Says, compose, same}
 use Rattle.points.specs.Tests.{both}
 use Rattle.points.proofs.Finite.{both_left, both_right, both_from, implies, implied, every, every_at}
@@ -13,7 +13,7 @@ use Rattle.spells.specs.declared.spell.Spell.{Spell}
 use Rattle.spells.specs.declared.spell.Relation.{Relation}
 use Rattle.spells.specs.declared.spell.Relation.TheVariants.{Equals, Before, After, Meets, MetBy, Overlaps, OverlappedBy, Starts, StartedBy, During, Contains, Finishes, FinishedBy}
 use Rattle.spells.specs.Relations.{Lawful, Holds, relations, coded, code, by_ends, related, Ends, ends}
-use Rattle.spells.specs.Spells.{spells, pick, level, side, timeline, spell}
+use Rattle.spells.specs.Spells.{spells, pick, level, timeline, spell}
 
 -- what the four comparisons of a relation say
 abbrev AllSay : Ends → Spell → Spell → Type 0
@@ -128,16 +128,6 @@ related_told u v hu hv =
       end_start = same_eq es q.2 (both_left (same es q.2) (same ee q.3) finishes);
       end_end = same_eq ee q.3 (both_right (same es q.2) (same ee q.3) finishes);
     }
-
--- a number that is no code says nothing
-pub side_beyond : (c s t : ℕ) → 13 ≤ c → side c s t ≡ Prim.Native.Nat.Ordering.eq
-side_beyond c s t h = ap (λ (q : Ends). pick q s t) (get_or_past (map ends relations) c level h) ∙ level_side s t
-  where
-    level_side : (s t : ℕ) → pick level s t ≡ Prim.Native.Nat.Ordering.eq
-    level_side zero zero = refl
-    level_side zero (suc t) = refl
-    level_side (suc s) zero = refl
-    level_side (suc s) (suc t) = refl
 
 -- the number of an end
 abbrev number : Spell → ℕ → ℕ → ℕ

@@ -1,7 +1,7 @@
 // The kind S: spells, with the base relations of the interval algebra.
 #![tactic(auto)]
 
-ghost use Rattle.std.specs.Prelude.{◌≡◌};
+ghost use Rattle.std.specs.Prelude.{refl};
 ghost use Rattle.kinds.specs.Layouts.{fit};
 ghost use Rattle.spells.specs.Spells.{spells as spell_meaning, timeline as timeline_layout, spell as spell_at, spell_words, spells};
 ghost use Rattle.kinds.proofs.Framed.{laws};
@@ -11,9 +11,10 @@ ghost use Rattle.kinds.proofs.Worded;
 
 use kinds::kind::Kind;
 use kinds::notation::Notation;
+use kinds::table::look_up;
 use points::set::contains;
 use spell::{Spell, relate};
-use table::{composed, timeline};
+use table::{TABLE, TIMELINE};
 
 pub mod spell;
 mod table;
@@ -26,11 +27,15 @@ impl Kind for Spells {
 
     const CODES: u8 = 13;
 
+    ghost CODES = { 13 };
+
     ghost meaning = { spell_meaning };
 
     ghost fit = { fit timeline_layout };
 
     ghost values = { spell_at };
+
+    ghost counted = { refl };
 
     ghost lawful = { laws spells timeline_layout spelled };
 
@@ -39,10 +44,6 @@ impl Kind for Spells {
     ghost composes = { Framed.composes spells timeline_layout spelled };
 
     ghost realises = { spells_realise };
-
-    fn count() -> u8 {
-        Self::CODES
-    }
 
     fn relation(first: Spell, second: Spell) -> u8 {
         relate(first, second) as u8
@@ -58,14 +59,13 @@ impl Kind for Spells {
     }
 
     fn fits(c: u8, d: u8, e: u8) -> bool {
-        contains(composed(c, d), e)
+        contains(look_up(&TABLE, c, d), e)
     }
 
     fn value(items: u8, scenario: &[u8], item: u8) -> Spell {
-        let axis = timeline();
         Spell {
-            start: axis.rank(items, scenario, item, 0),
-            end: axis.rank(items, scenario, item, 1),
+            start: TIMELINE.rank(items, scenario, item, 0),
+            end: TIMELINE.rank(items, scenario, item, 1),
         }
     }
 }

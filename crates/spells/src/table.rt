@@ -1,11 +1,6 @@
 // The composition of spells, and the axis of their ends.
-ghost use Rattle.std.specs.Prelude.{◌≡◌, ℕ};
-ghost use Rattle.points.specs.Marks.{Draws};
-ghost use Rattle.points.specs.Sets.{has};
-ghost use Rattle.kinds.specs.Layouts.{fit};
-ghost use Rattle.spells.specs.Spells.{timeline as timeline_layout};
-
-use points::axis::Axis;
+use kinds::table::Row;
+use points::axis::{Axis, Order};
 
 // The base relations as sets of one.
 const EQ: u64 = 1 << 0;
@@ -36,13 +31,8 @@ const FI: u64 = 1 << 12;
 
 const ALL: u64 = EQ | P | PI | M | MI | O | OI | S | SI | D | DI | F | FI;
 
-/// One row of the composition table: for a first relation, the set of relations for each second one, in the order of the codes.
-#[derive(Clone, Copy)]
-pub struct Row {
-    masks: [u64; 13],
-}
-
-const TABLE: [Row; 13] = [
+// The composition table: a row for each first relation, a set for each second one, in the order of the codes.
+pub const TABLE: [Row<13>; 13] = [
     // eq
     Row {
         masks: [EQ, P, PI, M, MI, O, OI, S, SI, D, DI, F, FI],
@@ -265,39 +255,28 @@ const TABLE: [Row; 13] = [
     },
 ];
 
-// Mark 0 is the start, mark 1 the end: start to start and start to end; end to start and end to end.
-const TIMELINE: Axis = Axis {
-    marks: 2,
-    before: [
+// The axis of the ends: mark 0 is the start, mark 1 the end.
+pub const TIMELINE: Axis<2> = Axis {
+    orders: [
         [
-            P | M | O | DI | FI,
-            EQ | P | M | O | OI | S | SI | D | DI | F | FI,
+            Order {
+                before: P | M | O | DI | FI,
+                after: PI | MI | OI | D | F,
+            },
+            Order {
+                before: EQ | P | M | O | OI | S | SI | D | DI | F | FI,
+                after: PI,
+            },
         ],
-        [P, P | M | O | S | D],
-    ],
-    after: [
-        [PI | MI | OI | D | F, PI],
         [
-            EQ | PI | MI | O | OI | S | SI | D | DI | F | FI,
-            PI | MI | OI | SI | DI,
+            Order {
+                before: P,
+                after: EQ | PI | MI | O | OI | S | SI | D | DI | F | FI,
+            },
+            Order {
+                before: P | M | O | S | D,
+                after: PI | MI | OI | SI | DI,
+            },
         ],
     ],
 };
-
-/// The composition of two base relations, by the table; empty where one is no code.
-pub fn composed(c: u8, d: u8) -> u64
-    ensures { (e : ℕ) → has result e ≡ fit timeline_layout c d e }
-{
-    if c < 13 && d < 13 {
-        TABLE[c as usize].masks[d as usize]
-    } else {
-        0
-    }
-}
-
-/// The axis on which spells have their start and their end.
-pub fn timeline() -> Axis
-    ensures { Draws result 2 (timeline_layout.side 0) }
-{
-    TIMELINE
-}

@@ -1,4 +1,4 @@
-use Rattle.std.proofs.Common.{◌≡◌, ℕ, Bool, ap, ◌∙◌, arith}
+use Rattle.std.proofs.Common.{ℕ, Bool, ap, ◌∙◌, arith}
 use Rattle.std.specs.Ordering.{is_lt as told_is_lt}
 use Rattle.points.specs.Points.{is_lt}
 use Rattle.points.specs.Marks.{stands, in_scenario, drawn}

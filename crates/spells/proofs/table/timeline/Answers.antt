@@ -1,7 +1,0 @@
-use Rattle.points.proofs.Tabled.{axis_right}
-use Rattle.spells.specs.Spells.{timeline as timeline_layout}
-use Rattle.spells.specs.Spelled.{side_beyond}
-use Rattle.spells.proofs.table.timeline.Goals as goal
-
-pub returns : goal.returns
-returns c = axis_right 13 (timeline_layout.side 0) _ tt side_beyond
