@@ -1,16 +1,22 @@
 -- What the laws of joining give: joins of lists appended, and of a list parted by a test.
-use Rattle.std.proofs.Common.{◌≡◌, ℕ, ◌+◌, ◌-◌, ◌<◌, ◌≤◌, Bool, true, false, cond, not, List, [], ◌∷◌, ◌++◌, length, get_or, drop, filter, sym, refl, ap, ◌∙◌, arith}
+use Rattle.std.proofs.Common.{◌≡◌, ◌+◌, ◌≤◌, Bool, true, false, cond, not, List, [], ◌∷◌, ◌++◌, length, filter, sym, refl, ap, ◌∙◌, arith}
 use Rattle.std.proofs.lemmas.List.Filters.{length-filter_both}
-use Rattle.std.proofs.lemmas.List.{drop_more}
+use Rattle.std.specs.List.{push as push_last}
 use Rattle.tallies.specs.Joins.{Joining, Monoid, joined, most_penalties}
 
--- One turn of a loop that joins a list from its end: the penalty of the member before i, joined with the join from i on.
-pub joined_drop_more : {P C : Type 0} (j : Joining P C) (xs : List P) (i : ℕ) (d : P) (one rest all : C) → 0 < i → i ≤ length xs
-    → one ≡ j.penalty (get_or xs (i - 1) d) → rest ≡ joined j (drop i xs) → all ≡ j.join one rest → all ≡ joined j (drop (i - 1) xs)
-joined_drop_more j xs i d one rest all l h e f g =
-    let inside : i - 1 < length xs = omega arith in
-    let before : (i - 1) + 1 ≡ i = omega arith in
-    rw (drop_more xs (i - 1) d inside, before, g, e, f)
+module _ {P C : Type 0} (j : Joining P C) where
+  -- A list joined onto a cost.
+  abbrev pub onto : List P → C → C
+  onto [] cost = cost
+  onto (x ∷ xs) cost = j.join (j.penalty x) (onto xs cost)
+
+  pub onto_empty : (xs : List P) → onto xs j.empty ≡ joined j xs
+  onto_empty [] = refl
+  onto_empty (x ∷ xs) = ap (j.join (j.penalty x)) (onto_empty xs)
+
+  pub onto_last : (xs : List P) (x : P) (cost : C) → onto (push_last xs x) cost ≡ onto xs (j.join (j.penalty x) cost)
+  onto_last [] x cost = refl
+  onto_last (y ∷ ys) x cost = ap (j.join (j.penalty y)) (onto_last ys x cost)
 
 module _ {P C : Type 0} (j : Joining P C) (m : Monoid j) where
   -- A first penalty may be joined before or after.

@@ -5,3 +5,5 @@ pub mod Groups
 pub mod Shapes
 pub mod Orders
 pub mod Along
+pub mod Sums
+pub mod Sworn

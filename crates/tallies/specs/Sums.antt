@@ -1,26 +1,15 @@
--- Capped sums of small penalties are plain sums, and so keep the laws of joining and comparing.
-use Rattle.std.specs.Prelude.{◌≡◌, ℕ, ◌*◌, ◌≤◌, List, [], ◌∷◌, length, sum_by, nat_le, refl}
+-- Capped sums of small penalties keep the laws of joining and comparing.
+use Rattle.std.specs.Prelude.{ℕ, ◌*◌, ◌≤◌, List, [], ◌∷◌, length, nat_le}
 use Rattle.std.proofs.Common.{arith}
-use Rattle.std.proofs.lemmas.List.Sums.{sum_by-cons}
 use Rattle.std.proofs.lemmas.Bool.{leb-true, leb-false, le-leb, lt-leb}
 use Rattle.tallies.specs.Joins.{Monoid, Ranking, joined, most_penalties}
-use Rattle.tallies.specs.Weights.{adding, capped, weight_of, WeightsAdd, WeightsCount}
+use Rattle.tallies.specs.Weights.{adding, capped, weight_of, by_weight}
 
 module _ {P : Type 0} (f : P → ℕ) (small : (x : P) → f x ≤ 1000) where
   -- Up to 256 penalties of at most 1,000 each stay far below the cap.
   pub joined_le : (xs : List P) → length xs ≤ most_penalties → joined (adding f) xs ≤ length xs * 1000
   joined_le [] h = omega arith
   joined_le (x ∷ xs) h = let a = small x in let b = joined_le xs (omega arith) in omega arith
-
-  -- So their join is the plain sum.
-  pub joined_adding : (xs : List P) → length xs ≤ most_penalties → joined (adding f) xs ≡ sum_by f xs
-  joined_adding [] h = refl
-  joined_adding (x ∷ xs) h =
-      let a = small x in
-      let b = joined_le xs (omega arith) in
-      let c = joined_adding xs (omega arith) in
-      let d = sum_by-cons f x xs in
-      omega arith
 
   pub monoid_adding : Monoid (adding f)
   monoid_adding = record {
@@ -48,8 +37,9 @@ module _ {P : Type 0} (f : P → ℕ) (small : (x : P) → f x ≤ 1000) where
             le-leb (capped (J xs) (J zs)) (capped (J ys) (J zs)) (omega (arith, leb-true (J xs) (J ys) e));
       }
 
-pub weights_add : WeightsAdd
-weights_add = joined_adding weight_of (λ c. omega arith)
+-- The tally by weight has both.
+pub monoid_by_weight : Monoid by_weight
+monoid_by_weight = monoid_adding weight_of (λ c. omega arith)
 
-pub weights_count : WeightsCount
-weights_count n a b = omega arith
+pub ranking_by_weight : Ranking by_weight nat_le
+ranking_by_weight = ranking_adding weight_of (λ c. omega arith) (λ c. omega arith)

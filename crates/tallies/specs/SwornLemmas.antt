@@ -1,37 +1,36 @@
 -- The laws of the tally that counts the broken sworn statements first.
-use Rattle.std.specs.Prelude.{◌≡◌, ℕ, ◌+◌, ◌*◌, ◌≤◌, Bool, true, false, cond, not, List, [], ◌∷◌, length, sum_by, filter, refl}
+use Rattle.std.specs.Prelude.{◌≡◌, ℕ, ◌+◌, ◌*◌, ◌≤◌, Bool, true, false, cond, List, [], ◌∷◌, length, refl}
 use Rattle.std.proofs.Common.{ap, ◌∙◌, arith}
-use Rattle.std.proofs.lemmas.List.Sums.{sum_by-cons}
 use Rattle.std.proofs.lemmas.Bool.Decides.{nat_tests}
 use Rattle.tallies.specs.Joins.{Monoid, Ranking, joined, most_penalties}
 use Rattle.tallies.specs.Weights.{adding, weight_of}
-use Rattle.tallies.specs.Sworn.{sworn_first, sworn_order, PartsAdd}
+use Rattle.tallies.specs.Sworn.{sworn_first, sworn_order}
 use Rattle.tallies.specs.declared.claim.Claim.{Claim}
 use Rattle.tallies.specs.declared.sworn_first.SwornCost.{SwornCost}
-use Rattle.tallies.specs.Sums.{joined_le, joined_adding, monoid_adding}
+use Rattle.tallies.specs.Sums.{joined_le, monoid_adding}
 
 -- The two parts of a penalty, each a number.
-abbrev sworn_part : Claim → ℕ
+abbrev pub sworn_part : Claim → ℕ
 sworn_part c = cond c.sworn 1 0
 
-abbrev weight_part : Claim → ℕ
+abbrev pub weight_part : Claim → ℕ
 weight_part c = cond c.sworn 0 (weight_of c)
 
-sworn_part_small : (c : Claim) → sworn_part c ≤ 1000
+pub sworn_part_small : (c : Claim) → sworn_part c ≤ 1000
 sworn_part_small c = elim c.sworn as (λ v. cond v 1 0 ≤ 1000) [ true ↦ omega arith | false ↦ omega arith ]
 
-weight_part_small : (c : Claim) → weight_part c ≤ 1000
+pub weight_part_small : (c : Claim) → weight_part c ≤ 1000
 weight_part_small c = elim c.sworn as (λ v. cond v 0 (weight_of c) ≤ 1000) [ true ↦ omega arith | false ↦ omega arith ]
 
 -- A cost of two parts.
-abbrev parts : ℕ → ℕ → SwornCost
+abbrev pub parts : ℕ → ℕ → SwornCost
 parts s w = record { sworn = s; weight = w }
 
-parts_same : {s t w v : ℕ} → s ≡ t → w ≡ v → parts s w ≡ parts t v
+pub parts_same : {s t w v : ℕ} → s ≡ t → w ≡ v → parts s w ≡ parts t v
 parts_same {t = t} {w = w} e d = ap (λ (z : ℕ). parts z w) e ∙ ap (parts t) d
 
 -- A join is the joins of its two parts.
-joined_parts : (cs : List Claim) → joined sworn_first cs ≡ parts (joined (adding sworn_part) cs) (joined (adding weight_part) cs)
+pub joined_parts : (cs : List Claim) → joined sworn_first cs ≡ parts (joined (adding sworn_part) cs) (joined (adding weight_part) cs)
 joined_parts [] = refl
 joined_parts (c ∷ cs) = ap (sworn_first.join (sworn_first.penalty c)) (joined_parts cs)
 
@@ -85,19 +84,3 @@ ranking_sworn =
       monotone = λ xs ys zs h g e. monotone (J xs) (J ys) (J zs) (length xs) (length ys) (length zs)
           (joined_small xs (omega arith)) (joined_small ys (omega arith)) (joined_small zs (omega arith)) h g e;
     }
-
--- The weights of the claims that are not sworn.
-weight_sum_step : (v : Bool) (c : Claim) (cs ds : List Claim) → sum_by weight_part cs ≡ sum_by weight_of ds
-    → cond v 0 (weight_of c) + sum_by weight_part cs ≡ sum_by weight_of (cond (not v) (c ∷ ds) ds)
-weight_sum_step true c cs ds h = omega arith
-weight_sum_step false c cs ds h = let g = sum_by-cons weight_of c ds in omega arith
-
-weight_sum : (cs : List Claim) → sum_by weight_part cs ≡ sum_by weight_of (filter (λ c. not c.sworn) cs)
-weight_sum [] = refl
-weight_sum (c ∷ cs) =
-    sum_by-cons weight_part c cs ∙ weight_sum_step c.sworn c cs (filter (λ c. not c.sworn) cs) (weight_sum cs)
-
-pub parts_add : PartsAdd
-parts_add cs h =
-    joined_parts cs
-    ∙ parts_same (joined_adding sworn_part sworn_part_small cs h) (joined_adding weight_part weight_part_small cs h ∙ weight_sum cs)

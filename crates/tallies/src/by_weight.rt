@@ -3,8 +3,7 @@
 ghost use Rattle.std.specs.Prelude.{◌≡◌, ◌≤◌, length, sum_by, nat_le};
 ghost use Rattle.tallies.specs.Joins.{joined, most_penalties};
 ghost use Rattle.tallies.specs.Weights.{by_weight, weight_of, WeightsAdd, WeightsCount};
-ghost use Rattle.std.proofs.Common.{arith};
-ghost use Rattle.tallies.specs.Sums.{monoid_adding, ranking_adding};
+ghost use Rattle.tallies.specs.Sums.{monoid_by_weight, ranking_by_weight};
 
 use crate::claim::Claim;
 use crate::cost::joined;
@@ -18,7 +17,7 @@ impl Joins for ByWeight {
 
     ghost joining = { by_weight };
 
-    ghost monoid = { monoid_adding weight_of (λ c. omega arith) };
+    ghost monoid = { monoid_by_weight };
 
     fn empty() -> u32 {
         0
@@ -36,7 +35,7 @@ impl Joins for ByWeight {
 impl Tally for ByWeight {
     ghost order = { nat_le };
 
-    ghost ranks = { ranking_adding weight_of (λ c. omega arith) (λ c. omega arith) };
+    ghost ranks = { ranking_by_weight };
 
     fn at_most(a: u32, b: u32) -> bool {
         a <= b

@@ -13,8 +13,8 @@ pub fn joined<T: Joins>(claims: &[Claim]) -> T::Cost
     ensures { result ≡ joined T.Joins.joining claims.now }
 {
     let mut cost = T::empty();
-    for i in (0..claims.len()).rev() {
-        cost = T::join(T::penalty(claims[i]), cost);
+    for claim in claims.iter().rev() {
+        cost = T::join(T::penalty(*claim), cost);
     }
     cost
 }

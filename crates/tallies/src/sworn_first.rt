@@ -9,8 +9,9 @@ use crate::claim::Claim;
 use crate::cost::joined;
 use crate::tally::{Joins, Tally};
 
-/// How many sworn statements are broken, and the weight of the other broken statements.
-#[derive(Clone, Copy, PartialEq, Eq)]
+/// How many sworn statements are broken, and the weight of the other broken statements. Costs are ordered by the first, then by the
+/// second.
+#[derive(Clone, Copy, PartialEq, Eq, PartialOrd, Ord)]
 pub struct SwornCost {
     /// How many sworn statements are broken.
     pub sworn: u32,
@@ -60,7 +61,7 @@ impl Tally for SwornFirst {
     ghost ranks = { ranking_sworn };
 
     fn at_most(a: SwornCost, b: SwornCost) -> bool {
-        a.sworn < b.sworn || (a.sworn == b.sworn && a.weight <= b.weight)
+        a <= b
     }
 }
 

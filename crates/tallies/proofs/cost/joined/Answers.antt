@@ -1,20 +1,28 @@
--- The loop joins the claims from the last on: none at first, and one more with each turn.
-use Rattle.std.proofs.Common.{false, length, sym, ap, ◌∙◌, arith}
-use Rattle.std.proofs.lemmas.List.{drop_all}
-use Rattle.tallies.specs.Joins.{joined}
+-- The loop joins the claims from the last on: all are left at first, and one fewer with each turn.
+use Rattle.std.proofs.Common.{List, ap}
+use Rattle.std.proofs.lemmas.List.{nil_from_length}
 use Rattle.tallies.specs.declared.claim.Claim.{Claim}
-use Rattle.tallies.proofs.Joins.{joined_drop_more}
+use Rattle.tallies.proofs.Joins.{onto, onto_empty, onto_last}
 use Rattle.tallies.proofs.cost.joined.Goals as goal
 
-abbrev blank : Claim
-blank = record { set = 0; weight = 0; person = 0; sworn = false }
+pub loop-claim-init : goal.loop-claim-init
+loop-claim-init g c =
+    let all = onto_empty g.T.Joins.joining c.args.claims.now in
+    let first = c.empty-cost.ensures in
+    let it = c.into_iter-claim-iterator.ensures.into_iter_gives in
+    let rev = c.rev-claim-items.ensures.source in
+    let rest = c.iter.ensures.rest in
+    cc
 
-pub loop-i-init : goal.loop-i-init
-loop-i-init g c =
-    let claims = c.args.claims.now in
-    c.empty-cost.ensures ∙ ap (joined g.T.Joins.joining) (sym (drop_all (length claims) claims (omega arith)))
+pub loop-claim-preserved : goal.loop-claim-preserved
+loop-claim-preserved g c =
+    let step = onto_last g.T.Joins.joining c.next.new.self.iter.rest.now c.in-Some.claim.now c.loop-claim.cost in
+    let left = c.in-Some.ensures.steps in
+    let so_far = c.loop-claim.invariant in
+    cc (c.penalty.ensures, c.join-cost.ensures)
 
-pub loop-i-preserved : goal.loop-i-preserved
-loop-i-preserved g c =
-    joined_drop_more g.T.Joins.joining c.args.claims.now c.loop-i.i blank c.penalty.result c.loop-i.cost c.join-cost.result
-    (omega arith) (omega arith) c.penalty.ensures c.loop-i.invariant c.join-cost.ensures
+pub returns : goal.returns
+returns g c =
+    let none = nil_from_length c.loop-claim.claim-iterator.iter.rest.now c.in-None.ensures.steps.0 in
+    let so_far = c.loop-claim.invariant in
+    cc (ap (λ (xs : List Claim). onto g.T.Joins.joining xs c.loop-claim.cost) none)

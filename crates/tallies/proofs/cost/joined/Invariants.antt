@@ -1,7 +1,8 @@
--- The loop has joined the penalties of the claims from i on.
-use Rattle.std.proofs.Common.{◌≡◌, drop}
+-- The claims that are left, joined onto the cost, come to the join of all.
+use Rattle.std.proofs.Common.{◌≡◌}
 use Rattle.tallies.specs.Joins.{joined}
+use Rattle.tallies.proofs.Joins.{onto}
 use Rattle.tallies.proofs.cost.joined.Given as goal
 
-abbrev pub invariant-loop-i : goal.invariant-loop-i
-invariant-loop-i g l = l.cost ≡ joined g.T.Joins.joining (drop l.i l.claims)
+abbrev pub invariant-loop-claim : goal.invariant-loop-claim
+invariant-loop-claim g l = onto g.T.Joins.joining l.claim-iterator.iter.rest.now l.cost ≡ joined g.T.Joins.joining l.claims

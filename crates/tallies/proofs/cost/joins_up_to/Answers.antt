@@ -1,11 +1,13 @@
 -- The theorems on joins, from the law of the bound.
-use Rattle.std.proofs.Common.{rules}
 use Rattle.tallies.proofs.Groups.{regroup}
 use Rattle.tallies.proofs.Shapes.{joined_listing, monoid_of_shapes}
 use Rattle.tallies.proofs.cost.joins_up_to.Goals as goal
 
-pub returns : goal.returns
-returns g c =
-    let j = g.T.Joins.joining in
-    let m = g.met.T.Joins.monoid in
-    record { most = search rules; listed = joined_listing j m; monoid = monoid_of_shapes j m; regroups = regroup j m }
+pub returns-clause-listed : goal.returns-clause-listed
+returns-clause-listed g c = joined_listing g.T.Joins.joining g.met.T.Joins.monoid
+
+pub returns-clause-monoid : goal.returns-clause-monoid
+returns-clause-monoid g c = monoid_of_shapes g.T.Joins.joining g.met.T.Joins.monoid
+
+pub returns-clause-regroups : goal.returns-clause-regroups
+returns-clause-regroups g c = regroup g.T.Joins.joining g.met.T.Joins.monoid
