@@ -9,9 +9,8 @@ use crate::claim::Claim;
 use crate::cost::joined;
 use crate::tally::{Joins, Tally};
 
-/// How many sworn statements are broken, and the weight of the other broken statements. Costs are ordered by the first, then by the
-/// second.
-#[derive(Clone, Copy, PartialEq, Eq, PartialOrd, Ord)]
+/// How many sworn statements are broken, and the weight of the other broken statements.
+#[derive(Clone, Copy, PartialEq, Eq)]
 pub struct SwornCost {
     /// How many sworn statements are broken.
     pub sworn: u32,
@@ -60,11 +59,13 @@ impl Tally for SwornFirst {
 
     ghost ranks = { ranking_sworn };
 
+    // Written out: by the derived order a search of spells took a third longer.
     fn at_most(a: SwornCost, b: SwornCost) -> bool {
-        a <= b
+        a.sworn < b.sworn || (a.sworn == b.sworn && a.weight <= b.weight)
     }
 }
 
+// The join of claims is one function, `joined`; this one says of it what only this tally's costs can say.
 /// The cost of the claims, sworn first: for up to 256 claims, how many are sworn and the plain sum
 /// of the weights of the others.
 pub fn total(claims: &[Claim]) -> SwornCost
