@@ -23,11 +23,6 @@ first_past f (suc m) q none =
     let rest = first_past f m (suc q) (λ z a b. none z (omega arith) (omega arith)) in
     cond-false (f q) q (first_passing f m (suc q)) (none q (omega arith) (omega arith)) ∙ (let e : suc q + m ≡ q + suc m = omega arith in rest ∙ e)
 
--- A number told by a flag.
-told : (v : Bool) (x y z : ℕ) → (v ≡ true → x ≡ z) → (v ≡ false → z ≡ y) → cond v x y ≡ z
-told true x y z h g = h refl
-told false x y z h g = sym (g refl)
-
 module _ {C : Type 0} (r : Rules C) (n : ℕ) (rows : List Row) where
   -- A step from the incumbent a with the cursor at the codes e; b and q are the cost of a and the length of the shortest refuted prefix.
   module _ (a e : List ℕ) (some : 0 < r.codes) (long : length e ≡ pairs n) (low : Below r.codes e)
@@ -49,27 +44,16 @@ module _ {C : Type 0} (r : Rules C) (n : ℕ) (rows : List Row) where
         ap (λ (z : ℕ). cond (leb z (pairs n)) (position a (past r.codes (pairs n) z (index r.codes e))) (position (looked_at r n start) (index r.codes e + 1))) shortest_is
         ∙ ap (λ (z : List ℕ). cond (leb q (pairs n)) (position a (past r.codes (pairs n) q (index r.codes e))) (position z (index r.codes e + 1))) here
 
-    -- A step past a refuted prefix: the cursor is at the codes `out` then, if there is a scenario left.
-    pub step_skips : q ≤ pairs n → (v : Bool) (out : List ℕ)
-        → (v ≡ true → index r.codes out ≡ past r.codes (pairs n) q (index r.codes e))
-        → (v ≡ false → past r.codes (pairs n) q (index r.codes e) ≡ r.codes ^ pairs n)
-        → position a (cond v (index r.codes out) (r.codes ^ pairs n)) ≡ step r n rows start
-    step_skips within v out moved ended =
-        let there : cond v (index r.codes out) (r.codes ^ pairs n) ≡ past r.codes (pairs n) q (index r.codes e) =
-        told v (index r.codes out) (r.codes ^ pairs n) (past r.codes (pairs n) q (index r.codes e)) moved ended in
-        ap (position a) there
+    -- A step past a refuted prefix, to the next number after all that share it.
+    pub step_skips : q ≤ pairs n → (next : ℕ) → next ≡ past r.codes (pairs n) q (index r.codes e) → position a next ≡ step r n rows start
+    step_skips within next is =
+        ap (position a) is
         ∙ sym (step_is ∙ cond-true (leb q (pairs n)) (position a (past r.codes (pairs n) q (index r.codes e))) (position e (index r.codes e + 1)) (le-leb q (pairs n) within))
 
     -- A step to a scenario of which no prefix is refuted.
-    pub step_holds : pairs n < q → (v : Bool) (out : List ℕ)
-        → (v ≡ true → index r.codes out ≡ past r.codes (pairs n) (pairs n) (index r.codes e))
-        → (v ≡ false → past r.codes (pairs n) (pairs n) (index r.codes e) ≡ r.codes ^ pairs n)
-        → position e (cond v (index r.codes out) (r.codes ^ pairs n)) ≡ step r n rows start
-    step_holds beyond v out moved ended =
-        let there : cond v (index r.codes out) (r.codes ^ pairs n) ≡ index r.codes e + 1 =
-        told v (index r.codes out) (r.codes ^ pairs n) (past r.codes (pairs n) (pairs n) (index r.codes e)) moved ended
-        ∙ past_one r.codes (pairs n) (index r.codes e) in
-        ap (position e) there
+    pub step_holds : pairs n < q → (next : ℕ) → next ≡ past r.codes (pairs n) (pairs n) (index r.codes e) → position e next ≡ step r n rows start
+    step_holds beyond next is =
+        ap (position e) (is ∙ past_one r.codes (pairs n) (index r.codes e))
         ∙ sym (step_is ∙ cond-false (leb q (pairs n)) (position a (past r.codes (pairs n) q (index r.codes e))) (position e (index r.codes e + 1)) (lt-leb q (pairs n) beyond))
 
   -- One more step while the search goes on, and none once it has finished.

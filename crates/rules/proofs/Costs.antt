@@ -3,6 +3,7 @@ use Rattle.std.proofs.Common.{◌≡◌, ℕ, ◌+◌, ◌-◌, ◌<◌, ◌≤�
 use Rattle.std.specs.List.{AllByRecursion as Every}
 use Rattle.std.proofs.ByRecursion.{all_kept_by, All-weaker}
 use Rattle.std.proofs.lemmas.Bool.{cases_Bool, eqb-true}
+use Rattle.std.proofs.Math.Bool.{and-true, and-false}
 use Rattle.points.specs.Scenarios.{pairs}
 use Rattle.points.proofs.Placed.{place_within}
 use Rattle.tallies.specs.Joins.{Joining, Monoid, joined, most_penalties}
@@ -40,17 +41,9 @@ pair_broken o s xs =
     same r = elim (cases_Bool (eqb (spot r) s)) [
       | inl e ↦ (let at : spot r ≡ s = eqb-true (spot r) s e in
           ap (λ (v : Bool). v && breaks r (o s)) e ∙ ap (λ (z : ℕ). breaks r (o z)) (sym at)
-          ∙ and_true (breaks r (o (spot r))) ∙ ap (λ (v : Bool). breaks r (o (spot r)) && v) (sym e))
-      | inr e ↦ ap (λ (v : Bool). v && breaks r (o s)) e ∙ and_false (breaks r (o (spot r))) ∙ ap (λ (v : Bool). breaks r (o (spot r)) && v) (sym e)
+          ∙ sym (and-true (breaks r (o (spot r)))) ∙ ap (λ (v : Bool). breaks r (o (spot r)) && v) (sym e))
+      | inr e ↦ ap (λ (v : Bool). v && breaks r (o s)) e ∙ sym (and-false (breaks r (o (spot r)))) ∙ ap (λ (v : Bool). breaks r (o (spot r)) && v) (sym e)
     ]
-      where
-        and_true : (v : Bool) → v ≡ (v && true)
-        and_true true = refl
-        and_true false = refl
-
-        and_false : (v : Bool) → false ≡ (v && false)
-        and_false true = refl
-        and_false false = refl
 
 module _ (n : ℕ) (rows : List Row) (proper : Proper n rows) where
   -- At most as many rows count as the laws of a tally are owed for.

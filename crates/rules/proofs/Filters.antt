@@ -2,6 +2,7 @@
 use Rattle.std.proofs.Common.{◌≡◌, ◌≤◌, Bool, true, false, not, ◌&&◌, List, [], ◌∷◌, length, filter, sym, refl, ◌∙◌, inl, inr, arith}
 use Rattle.std.proofs.lemmas.List.Filters.{length-filter_both}
 use Rattle.std.proofs.lemmas.Bool.{cases_Bool}
+use Rattle.std.proofs.Math.Bool.{and_comm}
 
 module _ {P : Type 0} where
   -- A filter keeps no more than there is.
@@ -22,10 +23,4 @@ module _ {P : Type 0} where
   -- Two filters may be exchanged.
   pub kept_by_exchange : (f g : P → Bool) (xs : List P) → filter f (filter g xs) ≡ filter g (filter f xs)
   kept_by_exchange f g xs =
-      kept_by_twice f g (λ x. g x && f x) (λ x. refl) xs ∙ sym (kept_by_twice g f (λ x. g x && f x) (λ x. and_exchange (g x) (f x)) xs)
-    where
-      and_exchange : (v w : Bool) → (v && w) ≡ (w && v)
-      and_exchange true true = refl
-      and_exchange true false = refl
-      and_exchange false true = refl
-      and_exchange false false = refl
+      kept_by_twice f g (λ x. g x && f x) (λ x. refl) xs ∙ sym (kept_by_twice g f (λ x. g x && f x) (λ x. and_comm (g x) (f x)) xs)

@@ -121,20 +121,3 @@ proper_is n rows h = record {
   items = All-weaker (Sound n) (λ (r : Row). (r.low < r.high) × (r.high < n)) (λ r s. let m = measured n r s in (m.ordered, m.within)) rows (sound_rows n rows h);
   persons = All-weaker (Sound n) (λ (r : Row). (1 ≤ r.person) × (r.person ≤ 20)) (λ r s. let m = measured n r s in (m.some_person, m.most_person)) rows (sound_rows n rows h);
 }
-
-and_assoc : (u v w : Bool) → (u && (v && w)) ≡ ((u && v) && w)
-and_assoc true v w = refl
-and_assoc false v w = refl
-
-and_true : (v : Bool) → (v && true) ≡ v
-and_true true = refl
-and_true false = refl
-
-all_proper_push : (n : ℕ) (rows : List Row) (r : Row) → all_proper n (rows ++ (r ∷ [])) ≡ (all_proper n rows && row_proper n r)
-all_proper_push n [] r = and_true (row_proper n r)
-all_proper_push n (x ∷ xs) r = ap (λ (v : Bool). row_proper n x && v) (all_proper_push n xs r) ∙ and_assoc (row_proper n x) (all_proper n xs) (row_proper n r)
-
--- Whether one more row is proper too.
-pub all_proper_more : (n : ℕ) (rows : List Row) (i : ℕ) (d : Row) → i < length rows
-    → all_proper n (take (i + 1) rows) ≡ (all_proper n (take i rows) && row_proper n (get_or rows i d))
-all_proper_more n rows i d l = ap (all_proper n) (take_more rows i d l) ∙ all_proper_push n (take i rows) (get_or rows i d)

@@ -1,5 +1,6 @@
 -- What every row of a draft has: two of its items, the lower first, a weight from 1 to 1,000 and a person from 1 to 20.
-use Rattle.std.specs.Prelude.{ℕ, Bool, true, ◌&&◌, List, [], ◌∷◌, length, nat_le, nat_lt}
+use Rattle.std.specs.Prelude.{ℕ, Bool, ◌&&◌, List, length, nat_le, nat_lt}
+use Rattle.std.specs.List.{list_all}
 use Rattle.rules.specs.declared.row.Row.{Row}
 
 abbrev pub between : ℕ → ℕ → ℕ → Bool
@@ -9,8 +10,7 @@ abbrev pub row_proper : ℕ → Row → Bool
 row_proper n r = nat_lt r.low r.high && (nat_lt r.high n && (between 1 1000 r.weight && between 1 20 r.person))
 
 abbrev pub all_proper : ℕ → List Row → Bool
-all_proper n [] = true
-all_proper n (r ∷ rs) = row_proper n r && all_proper n rs
+all_proper n rows = list_all (row_proper n) rows
 
 -- and there are at most 256 rows
 abbrev pub proper : ℕ → List Row → Bool

@@ -1,5 +1,5 @@
 // The rows of a sheet.
-ghost use Rattle.std.specs.Prelude.{◌≡◌, ◌&&◌, if◌then◌else◌, ◌==◌};
+ghost use Rattle.std.specs.Prelude.{◌≡◌, ◌&&◌, ◌==◌};
 ghost use Rattle.points.specs.Scenarios.{entry as entry_of};
 ghost use Rattle.rules.specs.Rows.{claim_of, counts, breaks as breaks_of, spot as spot_of};
 ghost use Rattle.rules.specs.Properly.{row_proper};
@@ -63,20 +63,24 @@ impl Row {
         place(self.low, self.high) == spot && self.is_broken(code)
     }
 
-    /// The cost joined with the penalty of the row, if it is to be added.
-    pub fn added<J: Joins>(self, cost: J::Cost, adds: bool) -> J::Cost
-        ensures { result ≡ (if adds then J.Joins.joining.join cost (J.Joins.joining.penalty (claim_of self)) else cost) }
+    /// The cost joined with the penalty of the row.
+    pub fn added<J: Joins>(self, cost: J::Cost) -> J::Cost
+        ensures { result ≡ J.Joins.joining.join cost (J.Joins.joining.penalty (claim_of self)) }
     {
-        if adds {
-            let claim = Claim {
-                set: self.set,
-                weight: self.weight,
-                person: self.person,
-                sworn: self.sworn,
-            };
-            J::join(cost, J::penalty(claim))
-        } else {
-            cost
+        J::join(cost, J::penalty(self.into()))
+    }
+}
+
+/// What a tally may look at of the row.
+impl From<Row> for Claim {
+    ghost from_gives = { λ r c. c ≡ claim_of r };
+
+    fn from(row: Row) -> Claim {
+        Claim {
+            set: row.set,
+            weight: row.weight,
+            person: row.person,
+            sworn: row.sworn,
         }
     }
 }

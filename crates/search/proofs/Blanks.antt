@@ -3,7 +3,7 @@ use Rattle.std.proofs.Common.{◌≡◌, ℕ, zero, suc, ◌-◌, ◌<◌, ◌�
 use Rattle.std.proofs.lemmas.Bool.{cases_lt}
 use Rattle.std.proofs.lemmas.List.{length-replicate, length-take-le, get_or-replicate, get_or_past, get_or-append_right, get_or-set_other}
 use Rattle.rules.proofs.Cursors.{zeros}
-use Rattle.search.specs.Tables.{Blank}
+use Rattle.search.specs.Sheets.{Blank}
 
 -- Past the last pair there is no code.
 pub blank_end : (m : ℕ) (a : List ℕ) → length a ≤ m → Blank m a
@@ -14,6 +14,10 @@ zeros_read r k = elim (cases_lt k r) [
   | inl lt ↦ get_or-replicate r k 0 0 lt
   | inr ge ↦ (let long : length (zeros r) ≡ r = length-replicate r 0 in get_or_past (zeros r) k 0 (omega (arith, long, ge)))
 ]
+
+-- Zeros are 0 from each place on.
+pub blank_zeros : (m r : ℕ) → Blank m (zeros r)
+blank_zeros m r k l = zeros_read r k
 
 -- The codes after a prefix that zeros follow are 0, also once another code is written as its last.
 pub blank_after : (i r : ℕ) (a now : List ℕ) → i ≤ length a → now ≡ take i a ++ zeros r → Blank i now

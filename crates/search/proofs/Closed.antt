@@ -1,20 +1,21 @@
 -- What the facts of a closed sheet give: its rows are proper, its codes are below the number of codes, its pairs are few.
-use Rattle.std.proofs.Common.{◌≡◌, ℕ, zero, suc, ◌+◌, ◌-◌, ◌^◌, ◌<◌, ◌≤◌, Bool, true, false, cond, not, ◌&&◌, ltb, leb, ◌⊎◌, List, [], ◌∷◌, ◌++◌, length, get_or, take, set, replicate, vec_items, vec_capacity, Vec, sym, refl, ap, ◌∙◌, subst, inl, inr, eq-or-lt_of_le, pow-suc, mul-one, arith}
+use Rattle.std.proofs.Common.{Option, Some, None, is_some, ◌≡◌, ℕ, zero, suc, ◌+◌, ◌-◌, ◌^◌, ◌<◌, ◌≤◌, Bool, true, false, cond, not, ◌&&◌, ltb, leb, ◌⊎◌, List, [], ◌∷◌, ◌++◌, length, get_or, take, drop, set, replicate, vec_items, vec_capacity, Vec, sym, refl, ap, ◌∙◌, subst, inl, inr, eq-or-lt_of_le, pow-suc, mul-one, arith}
+use Rattle.std.specs.Option.{ForSome}
 use native.Mathlib.Nat.{pow-zero}
 use Rattle.std.specs.declared.alloc.Global.{Global}
-use Rattle.std.proofs.lemmas.Bool.{and_parts, and_from, ltb-true, lt-ltb, le-leb, lt-leb, leb-true}
+use Rattle.std.proofs.lemmas.Bool.{not-false, not-true, and_parts, and_from, ltb-true, lt-ltb, le-leb, lt-leb, leb-true}
 use Rattle.std.proofs.ByRecursion.{All-append, All-get_or}
-use Rattle.std.proofs.lemmas.List.{length-take-le, get_or-take, take_more_set, take-replicate}
+use Rattle.std.proofs.lemmas.List.{length-set, length-take-le, length-append, length-drop, get_or-append_right, get_or-drop, take_at, take_more_set, take-replicate}
 use Rattle.points.specs.Scenarios.{pairs}
 use Rattle.points.proofs.Placed.{pairs_up}
 use Rattle.rules.specs.declared.row.Row.{Row}
 use Rattle.rules.specs.Orders.{Below, index}
 use Rattle.rules.proofs.Orders.{index_lt, below_zeros}
 use Rattle.rules.proofs.Cursors.{index_second}
-use Rattle.search.specs.declared.sheet.Sheet.{Sheet}
-use Rattle.search.specs.Closed.{cursor_of, position_of, closes}
+use Rattle.search.specs.Closed.{closes}
 use Rattle.rules.specs.Properly.{between, proper}
-use Rattle.search.specs.Sheets.{all_below}
+use Rattle.search.proofs.Blanks.{blank_set, blank_zeros}
+use Rattle.search.specs.Sheets.{all_below, Blank, Holds, number_at}
 
 -- Up to 12 items have up to 66 pairs.
 pub pairs_few : (n : ℕ) → n ≤ 12 → pairs n ≤ 66
@@ -44,18 +45,25 @@ second_codes p some few =
     ∙ ap (λ (z : List ℕ). z ++ (1 ∷ [])) (take-replicate (p - 1) 66 0 (omega arith))
 
 -- It is a scenario, and its number is 1.
-pub second_below : (b p : ℕ) → 0 < p → p ≤ 66 → 1 < b → all_below b (take p (set blanks (p - 1) 1)) ≡ true
-second_below b p some few coded =
-    ap (all_below b) (second_codes p some few)
-    ∙ all_below_from b (replicate (p - 1) 0 ++ (1 ∷ []))
-    (All-append (λ c. c < b) (replicate (p - 1) 0) (1 ∷ []) (below_zeros b (p - 1) (omega arith)) (coded, tt))
+pub second_holds : (b p : ℕ) → 0 < p → p ≤ 66 → 1 < b → Holds b p (set blanks (p - 1) 1)
+second_holds b p some few coded = record {
+  long = length-set blanks (p - 1) 1;
+  below = ap (all_below b) (second_codes p some few)
+      ∙ all_below_from b (replicate (p - 1) 0 ++ (1 ∷ []))
+      (All-append (λ c. c < b) (replicate (p - 1) 0) (1 ∷ []) (below_zeros b (p - 1) (omega arith)) (coded, tt));
+  rest = blank_set p 1 blanks some (blank_zeros p 66);
+}
 
 pub second_number : (b p : ℕ) → 0 < p → p ≤ 66 → index b (take p (set blanks (p - 1) 1)) ≡ 1
 second_number b p some few = ap (index b) (second_codes p some few) ∙ index_second b (p - 1)
 
 -- All zeros is a scenario.
-pub zeros_below : (b p : ℕ) → 1 ≤ b → p ≤ 66 → all_below b (take p blanks) ≡ true
-zeros_below b p coded few = ap (all_below b) (take-replicate p 66 0 few) ∙ all_below_from b (replicate p 0) (below_zeros b p coded)
+pub zeros_hold : (b p : ℕ) → 1 ≤ b → p ≤ 66 → Holds b p blanks
+zeros_hold b p coded few = record {
+  long = refl;
+  below = ap (all_below b) (take-replicate p 66 0 few) ∙ all_below_from b (replicate p 0) (below_zeros b p coded);
+  rest = blank_zeros p 66;
+}
 
 -- No pairs, or one code, make one scenario.
 pub one_scenario : (b p : ℕ) → (p ≡ 0) ⊎ ((p ≡ 0 → ⊥) × (b ≡ 1)) → b ^ p ≡ 1
@@ -66,10 +74,15 @@ one_scenario b p (inr h) = ap (λ (z : ℕ). z ^ p) h.1 ∙ ones p
     ones zero = pow-zero 1
     ones (suc k) = pow-suc 1 k ∙ mul-one (1 ^ k) ∙ ones k
 
--- The search has finished exactly where it does not go on.
-pub finished_is : (b p : ℕ) (a : List ℕ) (going : Bool) → Below b a → length a ≡ p → not going ≡ leb (b ^ p) (cond going (index b a) (b ^ p))
-finished_is b p a true low long = sym (lt-leb (b ^ p) (index b a) (subst (λ (z : ℕ). index b a < b ^ z) long (index_lt b a low)))
-finished_is b p a false low long = sym (le-leb (b ^ p) (b ^ p) (omega arith))
+-- The search has finished exactly where there is no scenario at the cursor.
+pub finished_is : (b p : ℕ) (cursor : Option (List ℕ)) (none : Bool) → p ≤ 66 → ForSome cursor (Holds b p) → is_some cursor ≡ not none
+    → none ≡ leb (b ^ p) (number_at b p cursor)
+finished_is b p None none few h is = not-false none (sym is) ∙ sym (le-leb (b ^ p) (b ^ p) (omega arith))
+finished_is b p (Some a) none few h is =
+    let held = h a refl in
+    let long : length (take p a) ≡ p = length-take-le p a (omega (arith, held.long)) in
+    not-true none (sym is)
+    ∙ sym (lt-leb (b ^ p) (index b (take p a)) (subst (λ (z : ℕ). index b (take p a) < b ^ z) long (index_lt b (take p a) (below_from b (take p a) held.below))))
 
 -- What the test of the parts of a sheet says.
 pub closes_parts : (n : ℕ) (rows : Vec Row Global) (b : ℕ) → closes n rows b ≡ true
@@ -82,31 +95,14 @@ closes_parts n rows b h =
     let list = and_parts (leb 256 (vec_capacity rows)) (proper n (vec_items rows)) both.1 in
     (leb-true 1 n items.0, leb-true n 12 items.1, leb-true 1 b codes.0, leb-true b 64 codes.1, leb-true 256 (vec_capacity rows) list.0, list.1)
 
--- The scenario at the cursor has a code for each pair.
-pub cursor_long : (s : Sheet) → length (cursor_of s) ≡ pairs s.items
-cursor_long s = length-take-le (pairs s.items) s.cursor (omega (arith, pairs_few s.items s.few, s.wide))
+-- An array that holds a scenario of p pairs holds it still once other codes are written to its first p places.
+module _ (b p k : ℕ) (same : k ≡ p) (a out : List ℕ) (held : Holds b p a) (low : Below b out) (long : length out ≡ p) (few : p ≤ 66) where
+  pub written_front : take p (out ++ drop k a) ≡ out
+  written_front = take_at out (drop k a) p long
 
--- The code of a pair in the array is that in the scenario, and below the number of codes.
-pub cursor_code : (s : Sheet) (k : ℕ) → k < pairs s.items → (get_or s.cursor k 0 ≡ get_or (cursor_of s) k 0) × (get_or s.cursor k 0 < s.codes)
-cursor_code s k l =
-    let same : get_or (cursor_of s) k 0 ≡ get_or s.cursor k 0 = get_or-take (pairs s.items) s.cursor k 0 l in
-    let low : get_or (cursor_of s) k 0 < s.codes =
-    All-get_or (λ c. c < s.codes) (cursor_of s) k 0 (omega (arith, cursor_long s, l)) (below_from s.codes (cursor_of s) s.marked) in
-    (sym same, omega (arith, same, low))
-
--- What holds by the items, rows and codes of one sheet holds by those of another with the same.
-pub carried : (P : ℕ → Vec Row Global → ℕ → Type 0) (s t : Sheet) → (s.items ≡ t.items) × (s.rows ≡ t.rows) × (s.codes ≡ t.codes)
-    → P s.items s.rows s.codes → P t.items t.rows t.codes
-carried P s t e x =
-    subst (λ (b : ℕ). P t.items t.rows b) e.2
-    (subst (λ (v : Vec Row Global). P t.items v s.codes) e.1 (subst (λ (n : ℕ). P n s.rows s.codes) e.0 x))
-
--- While the search goes on, its number is below the number of scenarios; else it is that number.
-pub going_room : (s : Sheet) → s.going ≡ true → (position_of s).cursor < s.codes ^ pairs s.items
-going_room s e =
-    subst (λ (v : Bool). cond v (index s.codes (cursor_of s)) (s.codes ^ pairs s.items) < s.codes ^ pairs s.items) (sym e)
-    (subst (λ (p : ℕ). index s.codes (cursor_of s) < s.codes ^ p) (cursor_long s) (index_lt s.codes (cursor_of s) (below_from s.codes (cursor_of s) s.marked)))
-
-pub done_room : (s : Sheet) → s.going ≡ false → s.codes ^ pairs s.items ≤ (position_of s).cursor
-done_room s e =
-    subst (λ (v : Bool). s.codes ^ pairs s.items ≤ cond v (index s.codes (cursor_of s)) (s.codes ^ pairs s.items)) (sym e) (omega arith)
+  pub written_holds : Holds b p (out ++ drop k a)
+  written_holds = record {
+    long = omega (arith, length-append out (drop k a), length-drop k a, held.long, long, same, few);
+    below = ap (all_below b) written_front ∙ all_below_from b out low;
+    rest = λ i l. get_or-append_right out (drop k a) p i 0 long l ∙ get_or-drop k a (i - p) 0 ∙ held.rest (k + (i - p)) (omega (arith, same));
+  }

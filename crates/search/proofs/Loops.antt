@@ -1,7 +1,9 @@
 -- What the loops of code add up: costs with one more row, bounds with one more code or pair.
 use Rattle.std.proofs.Common.{◌≡◌, ℕ, zero, suc, ◌+◌, ◌-◌, ◌<◌, ◌≤◌, Bool, true, false, cond, ◌&&◌, eqb, List, [], ◌∷◌, ◌++◌, length, get_or, take, filter, sym, refl, ap, ◌∙◌, append-nil, arith}
 use Rattle.std.proofs.lemmas.List.Elements.{filter_more}
-use Rattle.std.proofs.lemmas.List.{length-take-le}
+use borrow.Rule.Slice.PartMut.{put_mid}
+use Rattle.std.proofs.lemmas.List.{length-take-le, get_or-take, get_or-drop, get_or-append_right}
+use Rattle.std.proofs.lemmas.Slice.{take-put_mid, drop-put_mid}
 use Rattle.tallies.specs.Joins.{Joining, Monoid, joined, most_penalties}
 use Rattle.tallies.specs.Groups.{span}
 use Rattle.tallies.specs.declared.claim.Claim.{Claim}
@@ -108,3 +110,21 @@ module _ {C : Type 0} (j : Joining Claim C) where
     pub bounds_first : (b q p : ℕ) → q < p → span (of_rows j) (pair_bound j at_most b rows) q (p - q)
         ≡ j.join (pair_bound j at_most b rows q) (span (of_rows j) (pair_bound j at_most b rows) (suc q) (p - suc q))
     bounds_first b q p h = let e : p - q ≡ suc (p - suc q) = omega arith in rw e refl
+
+-- A part of a table that was written, and what stands behind it.
+module _ {C : Type 0} (xs ys : List C) (a k : ℕ) (within : a ≤ length xs) (long : length ys ≡ k) (d : C) where
+  pub put_here : (z : ℕ) → z < k → get_or (put_mid a k xs ys) (a + z) d ≡ get_or ys z d
+  put_here z l =
+      let front : length (take a xs) ≡ a = length-take-le a xs within in
+      let back : a + z - a ≡ z = omega arith in
+      sym (get_or-take (a + length ys) (put_mid a k xs ys) (a + z) d (omega (arith, l, long)))
+      ∙ ap (λ (zs : List C). get_or zs (a + z) d) (take-put_mid a k xs ys (a + length ys) refl within)
+      ∙ get_or-append_right (take a xs) ys a (a + z) d front (omega arith) ∙ ap (λ (i : ℕ). get_or ys i d) back
+
+  pub put_later : (z : ℕ) → a + k ≤ z → get_or (put_mid a k xs ys) z d ≡ get_or xs z d
+  put_later z l =
+      let up : (a + k) + (z - (a + k)) ≡ z = omega arith in
+      ap (λ (i : ℕ). get_or (put_mid a k xs ys) i d) (sym up)
+      ∙ sym (get_or-drop (a + k) (put_mid a k xs ys) (z - (a + k)) d)
+      ∙ ap (λ (zs : List C). get_or zs (z - (a + k)) d) (drop-put_mid a k xs ys (a + k) (omega arith) within long)
+      ∙ get_or-drop (a + k) xs (z - (a + k)) d ∙ ap (λ (i : ℕ). get_or xs i d) up

@@ -1,6 +1,8 @@
 -- Prefixes of scenarios: what one more code adds, and what scenarios that share a prefix share.
-use Rattle.std.proofs.Common.{◌≡◌, ℕ, zero, suc, ◌+◌, ◌-◌, ◌<◌, ◌≤◌, Bool, true, false, not, ◌&&◌, ◌||◌, ltb, ◌≢◌, List, length, get_or, take, set, sym, refl, ap, ◌∙◌, subst, inl, inr, arith, below_more}
-use Rattle.std.proofs.lemmas.List.{take-take, get_or-set_same, get_or-set_other}
+use Rattle.std.proofs.Common.{◌≡◌, ℕ, zero, suc, ◌+◌, ◌-◌, ◌<◌, ◌≤◌, Bool, true, false, not, ◌&&◌, ◌||◌, ltb, ◌≢◌, List, [], ◌∷◌, length, get_or, take, drop, set, sym, refl, ap, ◌∙◌, subst, inl, inr, arith, below_more}
+use Rattle.std.specs.List.{list_any, zip}
+use Rattle.std.proofs.Math.Bool.{or_assoc, or_comm}
+use Rattle.std.proofs.lemmas.List.{length-take-le, length-drop, get_or-take, get_or-drop, take-take, get_or-set_same, get_or-set_other}
 use Rattle.std.proofs.lemmas.Bool.{cases_Bool, cases_lt, both_ways, and_cases, or_parts, or_left, or_right, lt-ltb, le-ltb, not-false, not-true}
 use Rattle.points.specs.Scenarios.{pairs, place, entry}
 use Rattle.points.proofs.Placed.{pairs_up}
@@ -50,6 +52,43 @@ pub some_same : (n : ℕ) (f g : ℕ → Bool) → ((i : ℕ) → i < n → f i 
 some_same zero f g h = refl
 some_same (suc n) f g h =
     ap (λ (v : Bool). v || some n f) (h n (omega arith)) ∙ ap (λ (v : Bool). g n || v) (some_same n f g (λ i l. h i (omega arith)))
+
+-- The lowest number is one of them.
+some_first : (n : ℕ) (f : ℕ → Bool) → some (suc n) f ≡ (f 0 || some n (λ i. f (suc i)))
+some_first zero f = refl
+some_first (suc n) f =
+    let rest : Bool = some n (λ i. f (suc i)) in
+    ap (λ (v : Bool). f (suc n) || v) (some_first n f) ∙ sym (or_assoc (f (suc n)) (f 0) rest)
+    ∙ ap (λ (v : Bool). v || rest) (or_comm (f (suc n)) (f 0)) ∙ or_assoc (f 0) (f (suc n)) rest
+
+-- Some pair of two lists passes, by its place.
+zip_some : (test : ℕ → ℕ → Bool) (xs ys : List ℕ) (n : ℕ) → length xs ≡ n → length ys ≡ n
+    → list_any (λ p. test p.0 p.1) (zip xs ys) ≡ some n (λ i. test (get_or xs i 0) (get_or ys i 0))
+zip_some test [] ys zero lx ly = refl
+zip_some test [] ys (suc n) lx ly = absurd (omega arith)
+zip_some test (x ∷ xs) ys zero lx ly = absurd (omega arith)
+zip_some test (x ∷ xs) [] (suc n) lx ly = absurd (omega arith)
+zip_some test (x ∷ xs) (y ∷ ys) (suc n) lx ly =
+    ap (λ (v : Bool). test x y || v) (zip_some test xs ys n (omega arith) (omega arith))
+    ∙ sym (some_first n (λ i. test (get_or (x ∷ xs) i 0) (get_or (y ∷ ys) i 0)))
+
+-- The same of two parts of one list.
+pub part_long : {A : Type 0} (a : List A) (m k : ℕ) → m + k ≤ length a → length (take (m + k - m) (drop m a)) ≡ k
+part_long a m k h =
+    let same : m + k - m ≡ k = omega arith in
+    length-take-le (m + k - m) (drop m a) (let l = length-drop m a in omega (arith, l, h)) ∙ same
+
+part_read : (a : List ℕ) (m k i : ℕ) → i < k → get_or (take (m + k - m) (drop m a)) i 0 ≡ get_or a (m + i) 0
+part_read a m k i l = get_or-take (m + k - m) (drop m a) i 0 (omega arith) ∙ get_or-drop m a i 0
+
+pub parts_some : (test : ℕ → ℕ → Bool) (a : List ℕ) (m l k : ℕ) → m + k ≤ length a → l + k ≤ length a
+    → list_any (λ p. test p.0 p.1) (zip (take (m + k - m) (drop m a)) (take (l + k - l) (drop l a))) ≡ some k (λ i. test (get_or a (m + i) 0) (get_or a (l + i) 0))
+parts_some test a m l k hm hl =
+    let xs : List ℕ = take (m + k - m) (drop m a) in
+    let ys : List ℕ = take (l + k - l) (drop l a) in
+    zip_some test xs ys k (part_long a m k hm) (part_long a l k hl)
+    ∙ some_same k (λ i. test (get_or xs i 0) (get_or ys i 0)) (λ i. test (get_or a (m + i) 0) (get_or a (l + i) 0))
+    (λ i lt. ap (λ (z : ℕ). test z (get_or ys i 0)) (part_read a m k i lt) ∙ ap (test (get_or a (m + i) 0)) (part_read a l k i lt))
 
 and_no : (v : Bool) → (v && false) ≡ false
 and_no true = refl

@@ -18,13 +18,9 @@ rows_of s = vec_items s.rows
 abbrev pub incumbent_of : Sheet → List ℕ
 incumbent_of s = take (pairs s.items) s.incumbent
 
--- the codes of the scenario at the cursor, while there is one
-abbrev pub cursor_of : Sheet → List ℕ
-cursor_of s = take (pairs s.items) s.cursor
-
 -- where the search stands
 abbrev pub position_of : Sheet → Position
-position_of s = stands_at s.codes s.items s.incumbent s.cursor s.going
+position_of s = stands_at s.codes s.items s.incumbent s.cursor
 
 -- the rules of the search, with the number of codes that the sheet has
 abbrev pub rules_of : {C : Type 0} → Sheet → (ℕ → ℕ → ℕ → Bool) → Joining Claim C → (C → C → Bool) → Rules C

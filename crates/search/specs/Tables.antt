@@ -1,13 +1,15 @@
 -- What the loop of a search keeps, so that a step looks only at what changed: costs of pairs, bounds of the remaining pairs, costs of
 -- prefixes, how long the prefixes are that are known not to be refuted, and from which place on the codes are 0.
 use Rattle.std.specs.Prelude.{◌≡◌, ℕ, ◌+◌, ◌-◌, ◌*◌, ◌<◌, ◌≤◌, Bool, false, List, length, slice_index, slice_index_or}
-use Rattle.points.specs.Scenarios.{pairs}
+use Rattle.points.specs.Scenarios.{pairs, entry}
 use Rattle.tallies.specs.Joins.{Joining}
 use Rattle.tallies.specs.Groups.{span}
 use Rattle.tallies.specs.declared.claim.Claim.{Claim}
 use Rattle.rules.specs.declared.row.Row.{Row}
-use Rattle.rules.specs.Costs.{of_rows, pair_cost, pair_bound}
+use Rattle.rules.specs.Costs.{of_rows, cost, pair_cost, pair_bound}
 use Rattle.rules.specs.Steps.{Rules, refuted}
+use Rattle.search.specs.Sheets.{Blank}
+use Rattle.search.specs.declared.step.Kept.{Kept}
 
 -- The cost of the first q pairs of a scenario, and the join of the lower bounds of the others of p pairs.
 abbrev pub spent_on : {C : Type 0} → Joining Claim C → List Row → List ℕ → ℕ → C
@@ -32,19 +34,16 @@ Spent j rows a m spent = (q : ℕ) → q < m → slice_index_or spent q j.empty 
 abbrev pub Stands : {C : Type 0} → Rules C → ℕ → List Row → C → List ℕ → ℕ → Type 0
 Stands r n rows best a m = (q : ℕ) → q < m → refuted r n rows best a q ≡ false
 
--- The codes of a are 0 from place m on.
-abbrev pub Blank : ℕ → List ℕ → Type 0
-Blank m a = (k : ℕ) → m ≤ k → slice_index a k ≡ 0
-
--- The two tables of a sheet.
-pub record Tabled {C : Type 0} (r : Rules C) (n : ℕ) (rows : List Row) (prices owed : List C) : Type 0 where
-  pub prices_long : length prices ≡ 4224
-  pub owed_long : length owed ≡ 67
-  pub priced : Priced r.joining r.codes rows 0 (pairs n) prices
-  pub bounded : Owed r.joining r.at_most r.codes rows 0 (pairs n) owed
-
 -- What is known of the scenario a at the cursor: the costs of its prefixes shorter than m, none of which is refuted.
 pub record Known {C : Type 0} (r : Rules C) (n : ℕ) (rows : List Row) (best : C) (a : List ℕ) (m : ℕ) (spent : List C) : Type 0 where
   pub long : length spent ≡ 67
   pub costs : Spent r.joining rows a m spent
   pub stands : Stands r n rows best a m
+
+-- What a search keeps between two steps is true of the incumbent and of the scenario a at the cursor.
+pub record Keeps {C : Type 0} (r : Rules C) (n : ℕ) (rows : List Row) (incumbent a : List ℕ) (k : Kept C) (spent : List C) : Type 0 where
+  pub best : k.best ≡ cost r.joining rows (entry incumbent)
+  pub stands : k.stands ≤ pairs n
+  pub filled : k.filled ≤ pairs n
+  pub known : Known r n rows k.best a k.stands spent
+  pub blank : Blank k.filled a

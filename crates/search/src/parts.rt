@@ -1,9 +1,9 @@
 // The parts of a closed sheet: how it is made from them, how they are read and given back.
-ghost use Rattle.std.specs.Prelude.{◌≡◌, ◌^◌, ◌≤◌, true, false, ◌&&◌, length, take, is_ok, IfOk, IfErr, if◌then◌else◌, vec_capacity};
-ghost use Rattle.rules.specs.Orders.{index};
+ghost use Rattle.std.specs.Prelude.{◌≡◌, ◌≤◌, true, is_ok, IfOk, IfErr, vec_capacity};
+ghost use Rattle.std.specs.Option.{ForSome};
 ghost use Rattle.rules.specs.Properly.{all_proper, proper};
-ghost use Rattle.search.specs.Sheets.{all_below};
 ghost use Rattle.rules.specs.Steps.{opening};
+ghost use Rattle.search.specs.Sheets.{Holds, number_at};
 ghost use Rattle.search.specs.Closed.{rows_of, incumbent_of, position_of, closes, is_finished};
 
 use crate::sheet::Sheet;
@@ -14,11 +14,7 @@ use rules::row::Row;
 fn all_are_proper(rows: &[Row], items: u8) -> bool
     ensures { result ≡ all_proper items rows.now }
 {
-    let mut good = true;
-    for row in rows {
-        good = good && row.is_proper(items);
-    }
-    good
+    rows.iter().all(|row| row.is_proper(items))
 }
 
 // Whether a sheet can be closed with these parts.
@@ -30,20 +26,19 @@ fn can_close(items: u8, rows: &Vec<Row>, codes: u8) -> bool
     sized && listed && all_are_proper(rows.as_slice(), items)
 }
 
-// The scenario numbered 1 of so many pairs, and whether there is one.
-fn second_scenario(count: usize, codes: u8) -> ([u8; 66], bool)
+// The scenario numbered 1 of so many pairs, if there is one.
+fn second_scenario(count: usize, codes: u8) -> Option<[u8; 66]>
     requires few { count ≤ 66 }
     requires coded { 1 ≤ codes }
-    ensures wide { length result.0 ≡ 66 }
-    ensures below { all_below codes (take count result.0) ≡ true }
-    ensures number { (if result.1 then index codes (take count result.0) else codes ^ count) ≡ 1 }
+    ensures holds { ForSome result (Holds codes count) }
+    ensures number { number_at codes count result ≡ 1 }
 {
-    let mut cursor = [0; 66];
     if count == 0 || codes == 1 {
-        return (cursor, false);
+        return None;
     }
+    let mut cursor = [0; 66];
     cursor[count - 1] = 1;
-    (cursor, true)
+    Some(cursor)
 }
 
 impl Sheet {
@@ -58,14 +53,13 @@ impl Sheet {
         if !can_close(items, &rows, codes) {
             return Err(rows);
         }
-        let (cursor, going) = second_scenario(pairs(items), codes);
+        let cursor = second_scenario(pairs(items), codes);
         Ok(Sheet {
             items,
             rows,
             codes,
             incumbent: [0; 66],
             cursor,
-            going,
         })
     }
 
@@ -81,7 +75,6 @@ impl Sheet {
             codes: _,
             incumbent: _,
             cursor: _,
-            going: _,
         } = self;
         (items, rows)
     }
@@ -111,6 +104,6 @@ impl Sheet {
     pub fn finished(&self) -> bool
         ensures { result ≡ is_finished self.now }
     {
-        !self.going
+        self.cursor.is_none()
     }
 }

@@ -1,26 +1,85 @@
 // The prefixes of the scenario at the cursor, and which of them are refuted.
-ghost use Rattle.std.specs.Prelude.{◌≡◌, ◌+◌, ◌*◌, ◌<◌, ◌≤◌, true, false, not, length as length_of, slice_index};
+ghost use Rattle.std.specs.Prelude.{◌≡◌, ◌+◌, ◌<◌, ◌≤◌, false, not, IfSome, unwrap_or, length as length_of, slice_index};
+ghost use Rattle.std.specs.List.{list_any, zip};
 ghost use Rattle.points.specs.Scenarios.{pairs as pairs_of, place as place_of};
+ghost use Rattle.rules.specs.Orders.{Below};
 ghost use Rattle.rules.specs.Steps.{some, unfit, refuted, first_passing};
-ghost use Rattle.search.specs.Closed.{rows_of, cursor_of, rules_of};
-ghost use Rattle.search.specs.Tables.{spent_on, Priced, Owed, Stands, Tabled, Known};
+ghost use Rattle.search.specs.Closed.{rows_of, rules_of};
+ghost use Rattle.search.specs.Tables.{spent_on, Spent, Stands, Known};
 
-use crate::sheet::Sheet;
+use crate::table::Tables;
 use kinds::kind::Kind;
 use points::scenario::pairs;
 use tallies::tally::{Joins, Tally};
 
 // The lower and the higher item of the pair at each place.
-const LOWS: [u8; 66] = [
-    0, 0, 1, 0, 1, 2, 0, 1, 2, 3, 0, 1, 2, 3, 4, 0, 1, 2, 3, 4, 5, 0, 1, 2, 3, 4, 5, 6, 0, 1, 2, 3,
-    4, 5, 6, 7, 0, 1, 2, 3, 4, 5, 6, 7, 8, 0, 1, 2, 3, 4, 5, 6, 7, 8, 9, 0, 1, 2, 3, 4, 5, 6, 7, 8,
-    9, 10,
-];
-
-const HIGHS: [u8; 66] = [
-    1, 2, 2, 3, 3, 3, 4, 4, 4, 4, 5, 5, 5, 5, 5, 6, 6, 6, 6, 6, 6, 7, 7, 7, 7, 7, 7, 7, 8, 8, 8, 8,
-    8, 8, 8, 8, 9, 9, 9, 9, 9, 9, 9, 9, 9, 10, 10, 10, 10, 10, 10, 10, 10, 10, 10, 11, 11, 11, 11,
-    11, 11, 11, 11, 11, 11, 11,
+static SIDES: [(u8, u8); 66] = [
+    (0, 1),
+    (0, 2),
+    (1, 2),
+    (0, 3),
+    (1, 3),
+    (2, 3),
+    (0, 4),
+    (1, 4),
+    (2, 4),
+    (3, 4),
+    (0, 5),
+    (1, 5),
+    (2, 5),
+    (3, 5),
+    (4, 5),
+    (0, 6),
+    (1, 6),
+    (2, 6),
+    (3, 6),
+    (4, 6),
+    (5, 6),
+    (0, 7),
+    (1, 7),
+    (2, 7),
+    (3, 7),
+    (4, 7),
+    (5, 7),
+    (6, 7),
+    (0, 8),
+    (1, 8),
+    (2, 8),
+    (3, 8),
+    (4, 8),
+    (5, 8),
+    (6, 8),
+    (7, 8),
+    (0, 9),
+    (1, 9),
+    (2, 9),
+    (3, 9),
+    (4, 9),
+    (5, 9),
+    (6, 9),
+    (7, 9),
+    (8, 9),
+    (0, 10),
+    (1, 10),
+    (2, 10),
+    (3, 10),
+    (4, 10),
+    (5, 10),
+    (6, 10),
+    (7, 10),
+    (8, 10),
+    (9, 10),
+    (0, 11),
+    (1, 11),
+    (2, 11),
+    (3, 11),
+    (4, 11),
+    (5, 11),
+    (6, 11),
+    (7, 11),
+    (8, 11),
+    (9, 11),
+    (10, 11),
 ];
 
 // The items of the pair at a place.
@@ -30,112 +89,97 @@ fn sides(spot: usize) -> (u8, u8)
     ensures rising { result.0 < result.1 }
     ensures few { result.1 < 12 }
 {
-    (LOWS[spot], HIGHS[spot])
+    SIDES[spot]
 }
 
-// Whether one of the triples does not fit whose first pairs have the codes from `low` on, whose second is `code`, and whose third pairs
-// have the codes from `high` on.
-fn misfits<K: Kind>(codes: &[u8; 66], low: usize, high: usize, count: usize, code: u8) -> bool
-    requires low { low + count ≤ 66 }
-    requires high { high + count ≤ 66 }
-    ensures { result ≡ some count (λ i. not (K.Kind.fit (slice_index codes.now (low + i)) code (slice_index codes.now (high + i)))) }
+// Whether one of the triples does not fit whose first pairs have these codes, whose second has the code, and whose third pairs have those.
+fn misfits<K: Kind>(firsts: &[u8], second: u8, thirds: &[u8]) -> bool
+    ensures { result ≡ list_any (λ p. not (K.Kind.fit p.0 second p.1)) (zip firsts.now thirds.now) }
 {
-    for i in 0..count {
-        if !K::fits(codes[low + i], code, codes[high + i]) {
-            return true;
-        }
-    }
-    false
+    firsts
+        .iter()
+        .zip(thirds)
+        .any(|(&first, &third)| !K::fits(first, second, third))
 }
 
-impl Sheet {
+impl<'a, T: Tally> Tables<'a, T> {
     // Whether one of the triples does not fit that the pair at the place closes.
-    fn closes_misfit<K: Kind, T: Tally>(&self, spot: usize) -> bool
-        requires { spot < pairs_of self.now.items }
-        ensures { unfit (rules_of self.now K.Kind.fit T.Joins.joining T.Tally.order) self.now.items spot (cursor_of self.now) ≡ false → unfit (rules_of self.now K.Kind.fit T.Joins.joining T.Tally.order) self.now.items (spot + 1) (cursor_of self.now) ≡ result }
+    fn closes_misfit<K: Kind>(&self, cursor: &[u8], spot: usize) -> bool
+        requires long { length_of cursor.now ≡ pairs_of self.now.sheet.now.items }
+        requires within { spot < pairs_of self.now.sheet.now.items }
+        ensures { unfit (rules_of self.now.sheet.now K.Kind.fit T.Joins.joining T.Tally.order) self.now.sheet.now.items spot cursor.now ≡ false → unfit (rules_of self.now.sheet.now K.Kind.fit T.Joins.joining T.Tally.order) self.now.sheet.now.items (spot + 1) cursor.now ≡ result }
     {
         let (low, high) = sides(spot);
+        let count = low as usize;
+        let (first, third) = (pairs(low), pairs(high));
         misfits::<K>(
-            &self.cursor,
-            pairs(low),
-            pairs(high),
-            low as usize,
-            self.cursor[spot],
+            &cursor[first..first + count],
+            cursor[spot],
+            &cursor[third..third + count],
         )
     }
 
     // The cost of the prefix of so many codes, from that of the one before it.
-    fn prefix_cost<K: Kind, T: Tally>(
-        &self,
-        prices: &[T::Cost],
-        spent: &[T::Cost],
-        length: usize,
-        best: T::Cost,
-    ) -> T::Cost
-        requires within { length ≤ pairs_of self.now.items }
-        requires long { length_of prices.now ≡ 4224 }
-        requires priced { Priced T.Joins.joining self.now.codes (rows_of self.now) 0 (pairs_of self.now.items) prices.now }
-        requires known { Known (rules_of self.now K.Kind.fit T.Joins.joining T.Tally.order) self.now.items (rows_of self.now) best (cursor_of self.now) length spent.now }
-        ensures { result ≡ spent_on T.Joins.joining (rows_of self.now) (cursor_of self.now) length }
+    fn prefix_cost(&self, cursor: &[u8], spent: &[T::Cost], length: usize) -> T::Cost
+        requires cursor { (length_of cursor.now ≡ pairs_of self.now.sheet.now.items) × Below self.now.sheet.now.codes cursor.now }
+        requires within { length ≤ pairs_of self.now.sheet.now.items }
+        requires long { length_of spent.now ≡ 67 }
+        requires known { Spent T.Joins.joining (rows_of self.now.sheet.now) cursor.now length spent.now }
+        ensures { result ≡ spent_on T.Joins.joining (rows_of self.now.sheet.now) cursor.now length }
     {
         if length == 0 {
             return T::empty();
         }
         let last = length - 1;
-        T::join(spent[last], prices[last * 64 + self.cursor[last] as usize])
+        T::join(spent[last], self.prices[last * 64 + cursor[last] as usize])
     }
 
     // Whether the prefix of so many codes is refuted, where no shorter one is.
-    fn is_refuted<K: Kind, T: Tally>(
+    fn is_refuted<K: Kind>(
         &self,
-        owed: &[T::Cost],
+        cursor: &[u8],
         length: usize,
         cost: T::Cost,
         best: T::Cost,
     ) -> bool
-        requires within { length ≤ pairs_of self.now.items }
-        requires long { length_of owed.now ≡ 67 }
-        requires owed { Owed T.Joins.joining T.Tally.order self.now.codes (rows_of self.now) 0 (pairs_of self.now.items) owed.now }
-        requires cost { cost ≡ spent_on T.Joins.joining (rows_of self.now) (cursor_of self.now) length }
-        requires stands { Stands (rules_of self.now K.Kind.fit T.Joins.joining T.Tally.order) self.now.items (rows_of self.now) best (cursor_of self.now) length }
-        ensures { refuted (rules_of self.now K.Kind.fit T.Joins.joining T.Tally.order) self.now.items (rows_of self.now) best (cursor_of self.now) length ≡ result }
+        requires long { length_of cursor.now ≡ pairs_of self.now.sheet.now.items }
+        requires within { length ≤ pairs_of self.now.sheet.now.items }
+        requires cost { cost ≡ spent_on T.Joins.joining (rows_of self.now.sheet.now) cursor.now length }
+        requires stands { Stands (rules_of self.now.sheet.now K.Kind.fit T.Joins.joining T.Tally.order) self.now.sheet.now.items (rows_of self.now.sheet.now) best cursor.now length }
+        ensures { refuted (rules_of self.now.sheet.now K.Kind.fit T.Joins.joining T.Tally.order) self.now.sheet.now.items (rows_of self.now.sheet.now) best cursor.now length ≡ result }
     {
-        let bound = T::join(cost, owed[length]);
+        let bound = T::join(cost, self.owed[length]);
         if T::at_most(best, bound) {
             return true;
         }
         if length == 0 {
             return false;
         }
-        self.closes_misfit::<K, T>(length - 1)
+        self.closes_misfit::<K>(cursor, length - 1)
     }
 
-    // The length of the shortest refuted prefix, or one more than there are pairs, where none shorter than `from` is.
-    pub(crate) fn shortest<K: Kind, T: Tally>(
+    // The length of the shortest refuted prefix, if one is refuted, where none shorter than `from` is.
+    pub(crate) fn shortest<K: Kind>(
         &self,
-        prices: &[T::Cost],
-        owed: &[T::Cost],
+        cursor: &[u8],
         spent: &mut [T::Cost],
         from: usize,
         best: T::Cost,
-    ) -> usize
-        requires within { from ≤ pairs_of self.now.items }
-        requires tabled { Tabled (rules_of self.now K.Kind.fit T.Joins.joining T.Tally.order) self.now.items (rows_of self.now) prices.now owed.now }
-        requires known { Known (rules_of self.now K.Kind.fit T.Joins.joining T.Tally.order) self.now.items (rows_of self.now) best (cursor_of self.now) from spent.old }
-        ensures is { result ≡ first_passing (refuted (rules_of self.now K.Kind.fit T.Joins.joining T.Tally.order) self.now.items (rows_of self.now) best (cursor_of self.now)) (pairs_of self.now.items + 1) 0 }
-        ensures within { result ≤ pairs_of self.now.items + 1 }
-        ensures known { Known (rules_of self.now K.Kind.fit T.Joins.joining T.Tally.order) self.now.items (rows_of self.now) best (cursor_of self.now) result spent.new }
+    ) -> Option<usize>
+        requires cursor { (length_of cursor.now ≡ pairs_of self.now.sheet.now.items) × Below self.now.sheet.now.codes cursor.now }
+        requires within { from ≤ pairs_of self.now.sheet.now.items }
+        requires known { Known (rules_of self.now.sheet.now K.Kind.fit T.Joins.joining T.Tally.order) self.now.sheet.now.items (rows_of self.now.sheet.now) best cursor.now from spent.old }
+        ensures is { unwrap_or result (pairs_of self.now.sheet.now.items + 1) ≡ first_passing (refuted (rules_of self.now.sheet.now K.Kind.fit T.Joins.joining T.Tally.order) self.now.sheet.now.items (rows_of self.now.sheet.now) best cursor.now) (pairs_of self.now.sheet.now.items + 1) 0 }
+        ensures within { IfSome result (λ q. q ≤ pairs_of self.now.sheet.now.items) }
+        ensures known { Known (rules_of self.now.sheet.now K.Kind.fit T.Joins.joining T.Tally.order) self.now.sheet.now.items (rows_of self.now.sheet.now) best cursor.now (unwrap_or result (pairs_of self.now.sheet.now.items + 1)) spent.new }
     {
-        let count = pairs(self.items);
-        let mut length = from;
-        while length <= count {
-            let cost = self.prefix_cost::<K, T>(prices, spent, length, best);
+        for length in from..cursor.len() + 1 {
+            let cost = self.prefix_cost(cursor, spent, length);
             spent[length] = cost;
-            if self.is_refuted::<K, T>(owed, length, cost, best) {
-                return length;
+            if self.is_refuted::<K>(cursor, length, cost, best) {
+                return Some(length);
             }
-            length += 1;
         }
-        length
+        None
     }
 }

@@ -1,29 +1,28 @@
 // A closed sheet as the code holds it.
-ghost use Rattle.std.specs.Prelude.{◌≡◌, ◌≤◌, true, length, take, vec_capacity};
+ghost use Rattle.std.specs.Prelude.{◌≡◌, ◌≤◌, true, vec_capacity};
+ghost use Rattle.std.specs.Option.{ForSome};
 ghost use Rattle.points.specs.Scenarios.{pairs};
 ghost use Rattle.rules.specs.Properly.{proper};
-ghost use Rattle.search.specs.Sheets.{all_below};
+ghost use Rattle.search.specs.Sheets.{Holds};
 
 use rules::row::Row;
 
-/// A closed sheet: a number of items and rows, the number of codes, and where its search stands. The incumbent and the scenario at the
-/// cursor have a code for each pair of items, at the front of their arrays; there is one at the cursor only while the search goes on.
+/// A closed sheet: a number of items and rows, the number of codes, and where its search stands: the incumbent, and the scenario at the
+/// cursor, which is none once the search has passed the last. The two have a code for each pair of items, at the front of their arrays,
+/// which have 66 places, as 12 items have 66 pairs: so closing and searching ask for no memory.
 #[derive(Drop)]
 pub struct Sheet {
     pub(crate) items: u8,
     pub(crate) rows: Vec<Row>,
     pub(crate) codes: u8,
     pub(crate) incumbent: [u8; 66],
-    pub(crate) cursor: [u8; 66],
-    pub(crate) going: bool,
+    pub(crate) cursor: Option<[u8; 66]>,
     ghost some: { 1 ≤ items },
     ghost few: { items ≤ 12 },
     ghost room: { 256 ≤ vec_capacity rows },
     ghost sound: { proper items rows.items ≡ true },
     ghost coded: { 1 ≤ codes },
     ghost narrow: { codes ≤ 64 },
-    ghost long: { length incumbent ≡ 66 },
-    ghost wide: { length cursor ≡ 66 },
-    ghost held: { all_below codes (take (pairs items) incumbent) ≡ true },
-    ghost marked: { all_below codes (take (pairs items) cursor) ≡ true },
+    ghost held: { Holds codes (pairs items) incumbent },
+    ghost marked: { ForSome cursor (Holds codes (pairs items)) },
 }

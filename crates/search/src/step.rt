@@ -1,58 +1,70 @@
 // The steps of a search.
-ghost use Rattle.std.specs.Prelude.{◌≡◌, ◌+◌, ◌<◌, ◌≤◌, true, length};
-ghost use Rattle.points.specs.Scenarios.{pairs as pairs_of, entry as entry_of};
-ghost use Rattle.rules.specs.Costs.{cost as cost_of};
-ghost use Rattle.rules.specs.Steps.{step as step_of, advance as advance_of, taken as taken_of};
-ghost use Rattle.search.specs.Closed.{rows_of, incumbent_of, cursor_of, position_of, rules_of};
-ghost use Rattle.search.specs.Tables.{Tabled, Known, Blank};
+ghost use Rattle.std.specs.Prelude.{◌≡◌, ◌^◌, IfSome, IfNone, length};
+ghost use Rattle.points.specs.Scenarios.{pairs as pairs_of};
+ghost use Rattle.rules.specs.Orders.{Below, index};
+ghost use Rattle.rules.specs.Steps.{position, step as step_of, advance as advance_of, taken as taken_of};
+ghost use Rattle.search.specs.Closed.{rows_of, position_of, rules_of};
+ghost use Rattle.search.specs.Tables.{Keeps};
 
-use crate::cursor::pass;
+use crate::cursor::rise;
 use crate::ledger::Ledger;
 use crate::sheet::Sheet;
+use crate::table::Tables;
 use kinds::kind::Kind;
 use points::scenario::pairs;
 use tallies::tally::{Joins, Tally};
 
-impl Sheet {
-    // One step of a search that goes on: the cost of the incumbent then, how long the prefixes at the cursor are that are known not to be
-    // refuted, and the place from which on its codes are 0.
-    fn step<K: Kind, T: Tally>(
-        &mut self,
-        prices: &[T::Cost],
-        owed: &[T::Cost],
-        spent: &mut [T::Cost],
-        from: usize,
-        filled: usize,
-        best: T::Cost,
-    ) -> (T::Cost, usize, usize)
-        requires going { self.old.going ≡ true }
-        requires within { (from ≤ pairs_of self.old.items) × (filled ≤ pairs_of self.old.items) }
-        requires blank { Blank filled (cursor_of self.old) }
-        requires best { best ≡ cost_of T.Joins.joining (rows_of self.old) (entry_of (incumbent_of self.old)) }
-        requires tabled { Tabled (rules_of self.old K.Kind.fit T.Joins.joining T.Tally.order) self.old.items (rows_of self.old) prices.now owed.now }
-        requires known { Known (rules_of self.old K.Kind.fit T.Joins.joining T.Tally.order) self.old.items (rows_of self.old) best (cursor_of self.old) from spent.old }
-        ensures stepped { position_of self.new ≡ step_of (rules_of self.old K.Kind.fit T.Joins.joining T.Tally.order) self.old.items (rows_of self.old) (position_of self.old) }
-        ensures within { (result.1 ≤ pairs_of self.old.items) × (result.2 ≤ pairs_of self.old.items) }
-        ensures blank { Blank result.2 (cursor_of self.new) }
-        ensures best { result.0 ≡ cost_of T.Joins.joining (rows_of self.old) (entry_of (incumbent_of self.new)) }
-        ensures known { Known (rules_of self.old K.Kind.fit T.Joins.joining T.Tally.order) self.old.items (rows_of self.old) result.0 (cursor_of self.new) result.1 spent.new }
-        ensures parts { (self.new.items ≡ self.old.items) × (self.new.rows ≡ self.old.rows) × (self.new.codes ≡ self.old.codes) }
-    {
-        let count = pairs(self.items);
-        let codes = self.codes;
-        let length = self.shortest::<K, T>(prices, owed, spent, from, best);
-        if length <= count {
-            let risen = pass(&mut self.cursor, count, codes, length, filled);
-            self.going = risen > 0;
-            return (best, risen, risen);
-        }
-        let scenario = self.cursor;
-        self.incumbent = scenario;
-        let risen = pass(&mut self.cursor, count, codes, count, filled);
-        self.going = risen > 0;
-        (spent[count], 0, risen)
-    }
+// What a search keeps between two steps: the cost of the incumbent, how long the prefixes at the cursor are that are known not to be
+// refuted, and the place from which on its codes are 0.
+#[derive(Clone, Copy)]
+pub(crate) struct Kept<C> {
+    pub(crate) best: C,
+    pub(crate) stands: usize,
+    pub(crate) filled: usize,
+}
 
+impl<'a, T: Tally> Tables<'a, T> {
+    // One step: what is kept for the next one, or none once the cursor has passed the last scenario.
+    fn step<K: Kind>(
+        &self,
+        incumbent: &mut [u8],
+        cursor: &mut [u8],
+        spent: &mut [T::Cost],
+        kept: Kept<T::Cost>,
+    ) -> Option<Kept<T::Cost>>
+        requires long { (length incumbent.old ≡ pairs_of self.now.sheet.now.items) × (length cursor.old ≡ pairs_of self.now.sheet.now.items) }
+        requires below { Below self.now.sheet.now.codes incumbent.old × Below self.now.sheet.now.codes cursor.old }
+        requires keeps { Keeps (rules_of self.now.sheet.now K.Kind.fit T.Joins.joining T.Tally.order) self.now.sheet.now.items (rows_of self.now.sheet.now) incumbent.old cursor.old kept spent.old }
+        ensures goes_on { IfSome result (λ _. position incumbent.new (index self.now.sheet.now.codes cursor.new) ≡ step_of (rules_of self.now.sheet.now K.Kind.fit T.Joins.joining T.Tally.order) self.now.sheet.now.items (rows_of self.now.sheet.now) (position incumbent.old (index self.now.sheet.now.codes cursor.old))) }
+        ensures ends { IfNone result (position incumbent.new (self.now.sheet.now.codes ^ pairs_of self.now.sheet.now.items) ≡ step_of (rules_of self.now.sheet.now K.Kind.fit T.Joins.joining T.Tally.order) self.now.sheet.now.items (rows_of self.now.sheet.now) (position incumbent.old (index self.now.sheet.now.codes cursor.old))) }
+        ensures below { Below self.now.sheet.now.codes incumbent.new × Below self.now.sheet.now.codes cursor.new }
+        ensures keeps { IfSome result (λ k. Keeps (rules_of self.now.sheet.now K.Kind.fit T.Joins.joining T.Tally.order) self.now.sheet.now.items (rows_of self.now.sheet.now) incumbent.new cursor.new k spent.new) }
+    {
+        let codes = self.sheet.codes;
+        match self.shortest::<K>(cursor, spent, kept.stands, kept.best) {
+            Some(length) => {
+                let risen = rise(cursor, codes, length, kept.filled)?;
+                Some(Kept {
+                    best: kept.best,
+                    stands: risen,
+                    filled: risen,
+                })
+            }
+            None => {
+                incumbent.copy_from_slice(cursor);
+                let count = cursor.len();
+                let filled = rise(cursor, codes, count, kept.filled)?;
+                Some(Kept {
+                    best: spent[count],
+                    stands: 0,
+                    filled,
+                })
+            }
+        }
+    }
+}
+
+impl Sheet {
     // The steps of a search, by tables of the lengths that it needs: the costs of the pairs and the bounds are filled in first.
     fn advance<K: Kind, T: Tally>(
         &mut self,
@@ -66,19 +78,35 @@ impl Sheet {
         ensures taken { result ≡ taken_of (rules_of self.old K.Kind.fit T.Joins.joining T.Tally.order) self.old.items (rows_of self.old) steps (position_of self.old) }
         ensures parts { (self.new.items ≡ self.old.items) × (self.new.rows ≡ self.old.rows) × (self.new.codes ≡ self.old.codes) }
     {
+        let Some(mut cursor) = self.cursor else {
+            return 0;
+        };
+        let mut incumbent = self.incumbent;
+        let count = pairs(self.items);
+        let mut kept = Kept {
+            best: self.cost::<T>(),
+            stands: 0,
+            filled: count,
+        };
         self.fill::<T>(prices, owed);
-        let mut best = self.cost::<T>();
-        let mut from = 0;
-        let mut filled = pairs(self.items);
-        let mut taken = 0;
-        while taken < steps && self.going {
-            let (cost, length, risen) = self.step::<K, T>(prices, owed, spent, from, filled, best);
-            best = cost;
-            from = length;
-            filled = risen;
-            taken += 1;
+        let tables = Tables::<T> {
+            sheet: self,
+            prices,
+            owed,
+        };
+        for taken in 0..steps {
+            match tables.step::<K>(&mut incumbent[0..count], &mut cursor[0..count], spent, kept) {
+                Some(next) => kept = next,
+                None => {
+                    self.incumbent = incumbent;
+                    self.cursor = None;
+                    return taken + 1;
+                }
+            }
         }
-        taken
+        self.incumbent = incumbent;
+        self.cursor = Some(cursor);
+        steps
     }
 
     /// Searches on: up to so many steps, and fewer only if the search finishes. Answers how many steps were taken.

@@ -1,48 +1,52 @@
 // The costs and bounds that a search looks up.
-ghost use Rattle.std.specs.Prelude.{◌≡◌, ℕ, ◌+◌, ◌*◌, ◌<◌, ◌≤◌, Bool, length, slice_index_or};
-ghost use Rattle.rules.specs.Costs.{pair_cost, pair_bound};
-ghost use Rattle.search.specs.Closed.{rows_of, rules_of};
-ghost use Rattle.search.specs.Tables.{Tabled};
+ghost use Rattle.std.specs.Prelude.{◌≡◌, ℕ, ◌<◌, ◌≤◌, length, slice_index_or};
+ghost use Rattle.points.specs.Scenarios.{pairs as pairs_of};
+ghost use Rattle.rules.specs.Costs.{pair_cost};
+ghost use Rattle.search.specs.Closed.{rows_of};
+ghost use Rattle.search.specs.Tables.{Priced, Owed};
 
-use crate::cost::{lesser, pair_price};
+use crate::cost::least;
 use crate::sheet::Sheet;
 use points::scenario::pairs;
-use rules::row::Row;
 use tallies::tally::Tally;
 
-// Notes the costs of the pair at the place, and answers its lower bound.
-fn price_pair<T: Tally>(prices: &mut [T::Cost], rows: &[Row], codes: u8, spot: usize) -> T::Cost
-    requires few { length rows.now ≤ 256 }
-    requires coded { (1 ≤ codes) × (codes ≤ 64) }
-    requires within { spot < 66 }
-    requires long { length prices.old ≡ 4224 }
-    ensures is { result ≡ pair_bound T.Joins.joining T.Tally.order codes rows.now spot }
-    ensures long { length prices.new ≡ 4224 }
-    ensures here { (c : ℕ) → c < codes → slice_index_or prices.new (spot * 64 + c) T.Joins.joining.empty ≡ pair_cost T.Joins.joining rows.now spot c }
-    ensures later { (x : ℕ) → (spot + 1) * 64 ≤ x → slice_index_or prices.new x T.Joins.joining.empty ≡ slice_index_or prices.old x T.Joins.joining.empty }
-{
-    let mut least = pair_price::<T>(rows, spot, 0);
-    prices[spot * 64] = least;
-    for code in 1..codes {
-        let price = pair_price::<T>(rows, spot, code);
-        prices[spot * 64 + code as usize] = price;
-        least = lesser::<T>(price, least);
-    }
-    least
+// A sheet with its two tables: the cost of each pair under each code, with 64 places to a pair, and the joins of the lower bounds of the
+// pairs from each place on.
+#[derive(Drop)]
+pub(crate) struct Tables<'a, T: Tally> {
+    pub(crate) sheet: &'a Sheet,
+    pub(crate) prices: &'a [T::Cost],
+    pub(crate) owed: &'a [T::Cost],
+    ghost prices_long: { length prices.now ≡ 4224 },
+    ghost owed_long: { length owed.now ≡ 67 },
+    ghost priced: { Priced T.Joins.joining sheet.now.codes (rows_of sheet.now) 0 (pairs_of sheet.now.items) prices.now },
+    ghost bounded: { Owed T.Joins.joining T.Tally.order sheet.now.codes (rows_of sheet.now) 0 (pairs_of sheet.now.items) owed.now },
 }
 
 impl Sheet {
-    // Makes the two tables of the sheet: the cost of each pair under each code, with 64 places to a pair, and the joins of the lower
-    // bounds of the pairs from each place on.
+    // Notes the costs of the pair at the place under each code.
+    fn price_pair<T: Tally>(&self, spot: usize, prices: &mut [T::Cost])
+        requires { self.now.codes ≤ length prices.old }
+        ensures { (c : ℕ) → c < self.now.codes → slice_index_or prices.new c T.Joins.joining.empty ≡ pair_cost T.Joins.joining (rows_of self.now) spot c }
+    {
+        for code in 0..self.codes {
+            prices[code as usize] = self.pair_price::<T>(spot, code);
+        }
+    }
+
+    // Makes the two tables of the sheet.
     pub(crate) fn fill<T: Tally>(&self, prices: &mut [T::Cost], owed: &mut [T::Cost])
         requires { (length prices.old ≡ 4224) × (length owed.old ≡ 67) }
-        ensures { (fit : ℕ → ℕ → ℕ → Bool) → Tabled (rules_of self.now fit T.Joins.joining T.Tally.order) self.now.items (rows_of self.now) prices.new owed.new }
+        ensures priced { Priced T.Joins.joining self.now.codes (rows_of self.now) 0 (pairs_of self.now.items) prices.new }
+        ensures bounded { Owed T.Joins.joining T.Tally.order self.now.codes (rows_of self.now) 0 (pairs_of self.now.items) owed.new }
     {
         let count = pairs(self.items);
         owed[count] = T::empty();
         for spot in (0..count).rev() {
-            let least = price_pair::<T>(prices, self.rows.as_slice(), self.codes, spot);
-            owed[spot] = T::join(least, owed[spot + 1]);
+            let prices = &mut prices[spot * 64..spot * 64 + 64];
+            self.price_pair::<T>(spot, prices);
+            let bound = least::<T, _>(self.codes, |code| prices[code as usize]);
+            owed[spot] = T::join(bound, owed[spot + 1]);
         }
     }
 }

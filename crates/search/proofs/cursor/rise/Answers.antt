@@ -2,7 +2,7 @@
 use Rattle.std.proofs.Common.{◌≡◌, ℕ, ◌+◌, ◌-◌, ◌<◌, ◌≤◌, length, max, get_or, take, set, sym, refl, ap, ◌∙◌, subst, arith}
 use Rattle.std.proofs.ByRecursion.{All-get_or}
 use Rattle.rules.specs.Orders.{Below, index, past}
-use Rattle.search.specs.Tables.{Blank}
+use Rattle.search.specs.Sheets.{Blank}
 use Rattle.search.proofs.Blanks.{blank_front, blank_after, blank_set}
 use Rattle.rules.proofs.Cursors.{zeros, below_front, past_none, turn_read, turn_rise, turn_zero, turn_carry, rise_shares}
 use Rattle.search.proofs.cursor.rise.Goals as goal
@@ -33,14 +33,14 @@ returns-then-cursor-i c =
     let z : c.loop-i.i - 1 ≡ (c.loop-i.i - 1) + 1 - 1 = omega arith in
     let up : c.loop-i.i ≡ (c.loop-i.i - 1) + 1 = omega (arith, c.loop-i-test.true) in
     record {
-      moved = λ _. h.0;
-      ended = λ e. absurd (omega (arith, e));
+      moved = h.0;
+      ended = tt;
       low = h.1;
-      within = omega (arith, c.if-i-shared.true);
+      within = (omega arith, omega (arith, c.if-i-shared.true));
+      shares = subst (λ (w : ℕ). take w (set c.loop-i.cursor (c.loop-i.i - 1) (get_or c.loop-i.cursor (c.loop-i.i - 1) 0 + 1)) ≡ take w c.args.cursor.now) z s;
       blank = subst (λ (w : ℕ). Blank w (set c.loop-i.cursor (c.loop-i.i - 1) (get_or c.loop-i.cursor (c.loop-i.i - 1) 0 + 1))) up
           (blank_set c.loop-i.i (get_or c.loop-i.cursor (c.loop-i.i - 1) 0 + 1) c.loop-i.cursor c.loop-i-test.true
           (blank_after c.loop-i.i (length c.args.cursor.now - c.loop-i.i) c.args.cursor.now c.loop-i.cursor c.loop-i.invariant.0 c.loop-i.invariant.1));
-      shares = subst (λ (w : ℕ). take w (set c.loop-i.cursor (c.loop-i.i - 1) (get_or c.loop-i.cursor (c.loop-i.i - 1) 0 + 1)) ≡ take w c.args.cursor.now) z s;
     }
 
 pub loop-i-preserved : goal.loop-i-preserved
@@ -61,14 +61,13 @@ returns c =
     let e : c.loop-i.i ≡ 0 = omega (arith, c.loop-i-test.false) in
     let done = c.loop-i.invariant.2 (omega (arith, e)) in
     record {
-      moved = λ f. absurd (omega (arith, f));
-      ended = λ _. done
+      moved = tt;
+      ended = done
           ∙ ap (λ (z : ℕ). past c.args.codes (length c.args.cursor.now) z (index c.args.codes c.args.cursor.now)) e
           ∙ past_none c.args.codes c.args.cursor.now c.requires.low;
       low = subst (Below c.args.codes) (sym c.loop-i.invariant.1)
-          (below_front c.args.codes c.loop-i.i (length c.args.cursor.now - c.loop-i.i) c.args.cursor.now c.requires.coded.0 c.requires.low);
-      within = omega arith;
-      shares = refl;
-      blank = subst (λ (z : ℕ). Blank z c.loop-i.cursor) e
-          (blank_after c.loop-i.i (length c.args.cursor.now - c.loop-i.i) c.args.cursor.now c.loop-i.cursor c.loop-i.invariant.0 c.loop-i.invariant.1);
+          (below_front c.args.codes c.loop-i.i (length c.args.cursor.now - c.loop-i.i) c.args.cursor.now (omega (arith, c.requires.coded)) c.requires.low);
+      within = tt;
+      shares = tt;
+      blank = tt;
     }

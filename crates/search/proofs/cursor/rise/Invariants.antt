@@ -11,6 +11,3 @@ invariant-loop-i l =
     × (l.i ≤ l.shared
     → past l.codes (length l.initial.cursor) l.shared (index l.codes l.initial.cursor)
     ≡ past l.codes (length l.initial.cursor) l.i (index l.codes l.initial.cursor))
-
-abbrev pub decreases-loop-i : goal.decreases-loop-i
-decreases-loop-i l = l.i

@@ -1,19 +1,15 @@
 -- Where there is a second scenario, zeros and a 1 are its codes; else all scenarios are one.
-use Rattle.std.proofs.Common.{◌-◌, refl, arith}
-use Rattle.std.proofs.lemmas.List.{length-set}
-use Rattle.search.proofs.Closed.{blanks, zeros_below, second_below, second_number, one_scenario}
+use Rattle.std.proofs.Common.{subst, arith}
+use Rattle.std.proofs.lemmas.Option.{none-some, same_Some}
+use Rattle.search.specs.Sheets.{Holds}
+use Rattle.search.proofs.Closed.{second_holds, second_number, one_scenario}
 use Rattle.search.proofs.parts.second_scenario.Goals as goal
 
 pub returns-then-count-eq0 : goal.returns-then-count-eq0
-returns-then-count-eq0 c = record {
-  wide = refl;
-  below = zeros_below c.args.codes c.args.count c.requires.coded c.requires.few;
-  number = one_scenario c.args.codes c.args.count c.then-count-eq0.either;
-}
+returns-then-count-eq0 c = record { holds = λ a e. absurd (none-some a e); number = one_scenario c.args.codes c.args.count c.then-count-eq0.either }
 
 pub returns : goal.returns
 returns c = record {
-  wide = length-set blanks (c.args.count - 1) 1;
-  below = second_below c.args.codes c.args.count (omega arith) c.requires.few (omega arith);
+  holds = λ a e. subst (Holds c.args.codes c.args.count) (same_Some _ a e) (second_holds c.args.codes c.args.count (omega arith) c.requires.few (omega arith));
   number = second_number c.args.codes c.args.count (omega arith) c.requires.few;
 }

@@ -1,101 +1,169 @@
--- One more step with each turn, by the tables of the sheet as it began.
-use Rattle.std.proofs.Common.{◌≡◌, ℕ, ◌^◌, ◌<◌, ◌≤◌, length, vec_items, Vec, sym, refl, ◌∙◌, arith}
-use Rattle.std.specs.declared.alloc.Global.{Global}
-use Rattle.points.specs.Scenarios.{pairs, entry}
+-- One more step with each turn, by the tables of the sheet.
+use Rattle.std.proofs.Common.{◌≡◌, ℕ, ◌+◌, ◌-◌, ◌^◌, ◌<◌, ◌≤◌, List, ◌++◌, length, take, drop, sym, refl, ap, ◌∙◌, subst, arith}
+use Rattle.std.proofs.lemmas.Option.{none-some, same_Some}
+use Rattle.std.proofs.lemmas.List.{length-take-le}
+use Rattle.points.specs.Scenarios.{pairs}
 use Rattle.rules.specs.declared.row.Row.{Row}
-use Rattle.search.specs.declared.sheet.Sheet.{Sheet}
-use Rattle.rules.specs.Costs.{cost}
-use Rattle.search.specs.Closed.{rows_of, incumbent_of, cursor_of, position_of, rules_of}
-use Rattle.rules.specs.Steps.{Rules, step}
-use Rattle.search.specs.Tables.{Tabled, Known}
-use Rattle.search.proofs.Closed.{carried, going_room, done_room, cursor_long}
+use Rattle.rules.specs.Orders.{Below, index}
+use Rattle.rules.specs.Steps.{Rules, Position, position, step, advance, taken as taken_of}
+use Rattle.rules.proofs.Orders.{index_lt}
+use Rattle.rules.proofs.Advances.{UnderWay, under_way_none, under_way_more, under_way_all, under_way_done}
+use Rattle.search.specs.Closed.{rows_of, position_of, rules_of}
+use Rattle.search.specs.Sheets.{Holds, number_at}
+use Rattle.search.specs.Tables.{Keeps}
 use Rattle.search.proofs.Blanks.{blank_end}
-use Rattle.rules.proofs.Advances.{under_way_none, under_way_more, under_way_all, under_way_done}
+use Rattle.search.proofs.Closed.{pairs_few, below_from, written_front, written_holds}
 use Rattle.search.proofs.sheet.Sheet.advance.Goals as goal
-
-pub fill-requires : goal.fill-requires
-fill-requires g c = (c.requires.0, c.requires.1.0)
 
 pub loop-taken-init : goal.loop-taken-init
 loop-taken-init g c =
-    let self = c.args.self.now in
-    let long : length c.args.spent.now ≡ 67 = c.requires.1.1 in (
-      refl,
-      refl,
-      refl,
-      under_way_none (rules_of self g.K.Kind.fit g.T.Joins.joining g.T.Tally.order) self.items (rows_of self) c.args.steps (position_of self),
-      omega arith,
-      c.cost-best.ensures,
-      record { long = long; costs = λ z l. absurd (omega (arith, l)); stands = λ z l. absurd (omega (arith, l)) },
-      omega (arith, c.pairs-filled.ensures),
-      blank_end c.pairs-filled.result (cursor_of self) (omega (arith, c.pairs-filled.ensures, cursor_long c.args.self.now)),
-    )
-
-pub step-cost-requires : goal.step-cost-requires
-step-cost-requires g c =
-    let j = g.T.Joins.joining in
-    let begun : Sheet = c.args.self.now in
-    let self : Sheet = c.loop-taken.self in
-    let inv = c.loop-taken.invariant in
-    let same : (begun.items ≡ self.items) × (begun.rows ≡ self.rows) × (begun.codes ≡ self.codes) = (sym inv.0, sym inv.1, sym inv.2) in
+    let s = c.args.self.now in
+    let p : ℕ = pairs c.args.self.now.items in
+    let r = rules_of s g.K.Kind.fit g.T.Joins.joining g.T.Tally.order in
+    let few = pairs_few c.args.self.now.items c.args.self.now.few in
+    let marked : Holds s.codes p c.in-Some.cursor = s.marked c.in-Some.cursor c.in-Some.is in
+    let long : length (take p c.in-Some.cursor) ≡ pairs c.args.self.now.items = length-take-le p c.in-Some.cursor (omega (arith, few, marked.long)) in
     record {
-      going = c.if-self.true;
-      within = (
-        carried (λ (n : ℕ) (v : Vec Row Global) (b : ℕ). c.loop-taken.from ≤ pairs n) begun self same inv.4,
-        carried (λ (n : ℕ) (v : Vec Row Global) (b : ℕ). c.loop-taken.filled ≤ pairs n) begun self same inv.7,
-      );
-      blank = inv.8;
-      best = carried (λ (n : ℕ) (v : Vec Row Global) (b : ℕ). c.loop-taken.best ≡ cost j (vec_items v) (entry (incumbent_of c.loop-taken.self))) begun self same inv.5;
-      tabled = carried (λ (n : ℕ) (v : Vec Row Global) (b : ℕ). Tabled (record { codes = b; fit = g.K.Kind.fit; joining = j; at_most = g.T.Tally.order }) n (vec_items v) c.fill.new.prices c.fill.new.owed)
-          begun self same (c.fill.ensures g.K.Kind.fit);
-      known = carried (λ (n : ℕ) (v : Vec Row Global) (b : ℕ). Known (record { codes = b; fit = g.K.Kind.fit; joining = j; at_most = g.T.Tally.order }) n (vec_items v) c.loop-taken.best (cursor_of c.loop-taken.self) c.loop-taken.from c.loop-taken.spent)
-          begun self same inv.6;
+      under_way = subst (λ (m : ℕ). UnderWay r s.items (rows_of s) c.args.steps 0 (position_of s) (position (take p s.incumbent) m)) (ap (number_at s.codes p) c.in-Some.is)
+          (under_way_none r s.items (rows_of s) c.args.steps (position_of s));
+      held = s.held;
+      marked = marked;
+      keeps = record {
+        best = c.cost.ensures;
+        stands = omega arith;
+        filled = omega (arith, c.pairs-count.ensures);
+        known = record { long = c.requires.1.1; costs = λ z l. absurd (omega (arith, l)); stands = λ z l. absurd (omega (arith, l)) };
+        blank = blank_end c.pairs-count.result (take p c.in-Some.cursor) (omega (arith, c.pairs-count.ensures, long));
+      };
     }
+
+pub slice_bounds-incumbent-end : goal.slice_bounds-incumbent-end
+slice_bounds-incumbent-end g c = omega (arith, pairs_few c.args.self.now.items c.args.self.now.few, c.pairs-count.ensures, c.type_inv.incumbent)
+
+pub step-requires-clause-below : goal.step-requires-clause-below
+step-requires-clause-below g c =
+    let s = c.args.self.now in
+    let inv = c.loop-taken.invariant in
+    let same : c.pairs-count.result - 0 ≡ pairs c.args.self.now.items = omega (arith, c.pairs-count.ensures) in
+    subst (λ (k : ℕ). Below s.codes (take k c.loop-taken.incumbent) × Below s.codes (take k c.loop-taken.cursor)) (sym same)
+    (below_from s.codes (take (pairs s.items) c.loop-taken.incumbent) inv.held.below, below_from s.codes (take (pairs s.items) c.loop-taken.cursor) inv.marked.below)
+
+pub step-requires-clause-keeps : goal.step-requires-clause-keeps
+step-requires-clause-keeps g c =
+    let s = c.args.self.now in
+    let r = rules_of s g.K.Kind.fit g.T.Joins.joining g.T.Tally.order in
+    let same : c.pairs-count.result - 0 ≡ pairs c.args.self.now.items = omega (arith, c.pairs-count.ensures) in
+    subst (λ (k : ℕ). Keeps r s.items (rows_of s) (take k c.loop-taken.incumbent) (take k c.loop-taken.cursor) c.loop-taken.kept c.loop-taken.spent) (sym same)
+    c.loop-taken.invariant.keeps
+
+pub invariant_of-self : goal.invariant_of-self
+invariant_of-self g c =
+    let s = c.args.self.now in
+    let inv = c.loop-taken.invariant in
+    let few = pairs_few s.items s.few in
+    let same : c.pairs-count.result - 0 ≡ pairs c.args.self.now.items = omega (arith, c.pairs-count.ensures) in
+    let long = c.step.auto.incumbent ∙ length-take-le (c.pairs-count.result - 0) c.loop-taken.incumbent (omega (arith, same, few, inv.held.long)) ∙ same in
+    record {
+      some = s.some;
+      few = s.few;
+      room = s.room;
+      sound = s.sound;
+      coded = s.coded;
+      narrow = s.narrow;
+      held = written_holds s.codes (pairs s.items) (c.pairs-count.result - 0) same c.loop-taken.incumbent c.step.new.incumbent inv.held c.in-None.ensures.below.0 long few;
+      marked = λ a e. absurd (none-some a e);
+    }
+
+-- One step more on the way, from the codes of the arrays.
+module _ {C : Type 0} (r : Rules C) (n : ℕ) (rows : List Row) (steps taken : ℕ) (start : Position) (a e : List ℕ)
+    (on : UnderWay r n rows steps taken start (position (take (pairs n) a) (index r.codes (take (pairs n) e)))) (less : taken < steps)
+    (marked : Holds r.codes (pairs n) e) (few : pairs n ≤ 66) (k : ℕ) (same : k ≡ pairs n) (out : List ℕ) (next : ℕ)
+    (stepped : position out next ≡ step r n rows (position (take k a) (index r.codes (take k e)))) where
+  one_more : UnderWay r n rows steps (taken + 1) start (position out next)
+  one_more =
+      let p : ℕ = pairs n in
+      let long : length (take p e) ≡ p = length-take-le p e (omega (arith, few, marked.long)) in
+      let room : index r.codes (take p e) < r.codes ^ p =
+      subst (λ (z : ℕ). index r.codes (take p e) < r.codes ^ z) long (index_lt r.codes (take p e) (below_from r.codes (take p e) marked.below)) in
+      under_way_more r n rows steps taken start (position (take p a) (index r.codes (take p e))) (position out next) on less room
+      (subst (λ (z : ℕ). position out next ≡ step r n rows (position (take z a) (index r.codes (take z e)))) same stepped)
+
+  -- The last one, where it leads past the last scenario.
+  last_one : next ≡ r.codes ^ pairs n → (position out next ≡ advance r n rows steps start) × (taken + 1 ≡ taken_of r n rows steps start)
+  last_one is = under_way_done r n rows steps (taken + 1) start (position out next) one_more (omega (arith, is))
+
+pub returns-in-None-clause-advanced : goal.returns-in-None-clause-advanced
+returns-in-None-clause-advanced g c =
+    let s = c.args.self.now in
+    let p : ℕ = pairs c.args.self.now.items in
+    let r = rules_of s g.K.Kind.fit g.T.Joins.joining g.T.Tally.order in
+    let inv = c.loop-taken.invariant in
+    let few = pairs_few s.items s.few in
+    let same : c.pairs-count.result - 0 ≡ pairs c.args.self.now.items = omega (arith, c.pairs-count.ensures) in
+    let long = c.step.auto.incumbent ∙ length-take-le (c.pairs-count.result - 0) c.loop-taken.incumbent (omega (arith, same, few, inv.held.long)) ∙ same in
+    ap (λ (z : List ℕ). position z (s.codes ^ p))
+    (written_front s.codes p (c.pairs-count.result - 0) same c.loop-taken.incumbent c.step.new.incumbent inv.held c.in-None.ensures.below.0 long few)
+    ∙ (last_one r s.items (rows_of s) c.args.steps c.loop-taken.taken (position_of s) c.loop-taken.incumbent c.loop-taken.cursor inv.under_way c.loop-taken-test.true
+    inv.marked few (c.pairs-count.result - 0) same c.step.new.incumbent (s.codes ^ p) c.in-None.ensures.ends refl).0
+
+pub returns-in-None-clause-taken : goal.returns-in-None-clause-taken
+returns-in-None-clause-taken g c =
+    let s = c.args.self.now in
+    let r = rules_of s g.K.Kind.fit g.T.Joins.joining g.T.Tally.order in
+    let inv = c.loop-taken.invariant in
+    let same : c.pairs-count.result - 0 ≡ pairs c.args.self.now.items = omega (arith, c.pairs-count.ensures) in
+    (last_one r s.items (rows_of s) c.args.steps c.loop-taken.taken (position_of s) c.loop-taken.incumbent c.loop-taken.cursor inv.under_way c.loop-taken-test.true
+    inv.marked (pairs_few s.items s.few) (c.pairs-count.result - 0) same c.step.new.incumbent (s.codes ^ pairs s.items) c.in-None.ensures.ends refl).1
 
 pub loop-taken-preserved : goal.loop-taken-preserved
 loop-taken-preserved g c =
-    let j = g.T.Joins.joining in
-    let begun : Sheet = c.args.self.now in
-    let self : Sheet = c.loop-taken.self in
-    let after : Sheet = c.step-cost.new.self in
+    let s = c.args.self.now in
+    let b : ℕ = c.args.self.now.codes in
+    let p : ℕ = pairs c.args.self.now.items in
+    let r = rules_of s g.K.Kind.fit g.T.Joins.joining g.T.Tally.order in
     let inv = c.loop-taken.invariant in
-    let e = c.step-cost.ensures in
-    let r : Rules g.row.T-Cost.Denot = rules_of c.args.self.now g.K.Kind.fit g.T.Joins.joining g.T.Tally.order in
-    let same : (self.items ≡ begun.items) × (self.rows ≡ begun.rows) × (self.codes ≡ begun.codes) = (inv.0, inv.1, inv.2) in
-    let is : position_of after ≡ step r begun.items (rows_of begun) (position_of self) =
-    carried (λ (n : ℕ) (v : Vec Row Global) (b : ℕ). position_of c.step-cost.new.self ≡ step (record { codes = b; fit = g.K.Kind.fit; joining = j; at_most = g.T.Tally.order }) n (vec_items v) (position_of c.loop-taken.self))
-    self begun same e.stepped in
-    let room : (position_of self).cursor < begun.codes ^ pairs begun.items =
-    carried (λ (n : ℕ) (v : Vec Row Global) (b : ℕ). (position_of c.loop-taken.self).cursor < b ^ pairs n) self begun same (going_room self c.if-self.true) in (
-      e.parts.0 ∙ inv.0,
-      e.parts.1 ∙ inv.1,
-      e.parts.2 ∙ inv.2,
-      under_way_more r begun.items (rows_of begun) c.args.steps c.loop-taken.taken (position_of begun) (position_of self) (position_of after)
-          inv.3 c.loop-taken-test.true room is,
-      carried (λ (n : ℕ) (v : Vec Row Global) (b : ℕ). c.step-cost.result.1 ≤ pairs n) self begun same e.within.0,
-      carried (λ (n : ℕ) (v : Vec Row Global) (b : ℕ). c.step-cost.result.0 ≡ cost j (vec_items v) (entry (incumbent_of c.step-cost.new.self))) self begun same e.best,
-      carried (λ (n : ℕ) (v : Vec Row Global) (b : ℕ). Known (record { codes = b; fit = g.K.Kind.fit; joining = j; at_most = g.T.Tally.order }) n (vec_items v) c.step-cost.result.0 (cursor_of c.step-cost.new.self) c.step-cost.result.1 c.step-cost.new.spent)
-          self begun same e.known,
-      carried (λ (n : ℕ) (v : Vec Row Global) (b : ℕ). c.step-cost.result.2 ≤ pairs n) self begun same e.within.1,
-      e.blank,
-    )
+    let e = c.in-Some-step.ensures in
+    let few = pairs_few s.items s.few in
+    let k : ℕ = c.pairs-count.result - 0 in
+    let same : c.pairs-count.result - 0 ≡ pairs c.args.self.now.items = omega (arith, c.pairs-count.ensures) in
+    let out : List ℕ = c.step.new.incumbent in
+    let next : List ℕ = c.step.new.cursor in
+    let long = c.step.auto.incumbent ∙ length-take-le k c.loop-taken.incumbent (omega (arith, same, few, inv.held.long)) ∙ same in
+    let long' = c.step.auto.cursor ∙ length-take-le k c.loop-taken.cursor (omega (arith, same, few, inv.marked.long)) ∙ same in
+    let front = written_front b p k same c.loop-taken.incumbent out inv.held e.below.0 long few in
+    let front' = written_front b p k same c.loop-taken.cursor next inv.marked e.below.1 long' few in
+    let on : UnderWay r s.items (rows_of s) c.args.steps (c.loop-taken.taken + 1) (position_of s) (position out (index b next)) =
+    one_more r s.items (rows_of s) c.args.steps c.loop-taken.taken (position_of s) c.loop-taken.incumbent c.loop-taken.cursor inv.under_way c.loop-taken-test.true
+    inv.marked few k same out (index b next) e.goes_on in
+    let both : (P : List ℕ → List ℕ → Type 0) → P out next → P (take p (out ++ drop k c.loop-taken.incumbent)) (take p (next ++ drop k c.loop-taken.cursor)) =
+    λ P x. subst (λ (z : List ℕ). P z (take p (next ++ drop k c.loop-taken.cursor))) (sym front) (subst (λ (z : List ℕ). P out z) (sym front') x) in
+    record {
+      under_way = both (λ a z. UnderWay r s.items (rows_of s) c.args.steps (c.loop-taken.taken + 1) (position_of s) (position a (index b z))) on;
+      held = written_holds b p k same c.loop-taken.incumbent out inv.held e.below.0 long few;
+      marked = written_holds b p k same c.loop-taken.cursor next inv.marked e.below.1 long' few;
+      keeps = both (λ a z. Keeps r s.items (rows_of s) a z c.in-Some-step.next c.step.new.spent) e.keeps;
+    }
 
-pub returns-else-self : goal.returns-else-self
-returns-else-self g c =
-    let begun : Sheet = c.args.self.now in
-    let self : Sheet = c.loop-taken.self in
+pub invariant_of-self-2 : goal.invariant_of-self-2
+invariant_of-self-2 g c = 
+    let s = c.args.self.now in
     let inv = c.loop-taken.invariant in
-    let r : Rules g.row.T-Cost.Denot = rules_of c.args.self.now g.K.Kind.fit g.T.Joins.joining g.T.Tally.order in
-    let over : begun.codes ^ pairs begun.items ≤ (position_of self).cursor =
-    carried (λ (n : ℕ) (v : Vec Row Global) (b : ℕ). b ^ pairs n ≤ (position_of c.loop-taken.self).cursor) self begun (inv.0, inv.1, inv.2) (done_room self c.if-self.false) in
-    let both = under_way_done r begun.items (rows_of begun) c.args.steps c.loop-taken.taken (position_of begun) (position_of self) inv.3 over in
-    record { advanced = both.0; taken = both.1; parts = (inv.0, inv.1, inv.2) }
+    record {
+      some = s.some;
+      few = s.few;
+      room = s.room;
+      sound = s.sound;
+      coded = s.coded;
+      narrow = s.narrow;
+      held = inv.held;
+      marked = λ a e. subst (Holds s.codes (pairs s.items)) (same_Some _ a e) inv.marked;
+    }
 
-pub returns-after-loop-taken : goal.returns-after-loop-taken
-returns-after-loop-taken g c =
-    let begun : Sheet = c.args.self.now in
-    let self : Sheet = c.loop-taken.self in
-    let inv = c.loop-taken.invariant in
-    let r : Rules g.row.T-Cost.Denot = rules_of c.args.self.now g.K.Kind.fit g.T.Joins.joining g.T.Tally.order in
-    let both = under_way_all r begun.items (rows_of begun) c.args.steps c.loop-taken.taken (position_of begun) (position_of self) inv.3 c.loop-taken-test.false in
-    record { advanced = both.0; taken = both.1; parts = (inv.0, inv.1, inv.2) }
+pub returns : goal.returns
+returns g c =
+    let s = c.args.self.now in
+    let r = rules_of s g.K.Kind.fit g.T.Joins.joining g.T.Tally.order in
+    let here : Position = position (take (pairs s.items) c.loop-taken.incumbent) (index s.codes (take (pairs s.items) c.loop-taken.cursor)) in
+    let all = under_way_all r s.items (rows_of s) c.args.steps c.loop-taken.taken (position_of s) here c.loop-taken.invariant.under_way c.loop-taken-test.false in
+    let last : c.args.steps ≡ c.loop-taken.taken = omega (arith, c.loop-taken.auto, c.loop-taken-test.false) in
+    record { advanced = all.0; taken = last ∙ all.1; parts = (refl, refl, refl) }

@@ -7,4 +7,4 @@ use Rattle.search.proofs.sheet.Sheet.bound.Given as goal
 
 abbrev pub invariant-loop-spot : goal.invariant-loop-spot
 invariant-loop-spot g l =
-    l.sum ≡ span (of_rows g.T.Joins.joining) (pair_bound g.T.Joins.joining g.T.Tally.order l.self.codes (rows_of l.self)) 0 l.spot
+    l.sum ≡ span (of_rows g.T.Joins.joining) (pair_bound g.T.Joins.joining g.T.Tally.order l.self.codes (rows_of l.self)) 0 l.spot-counter

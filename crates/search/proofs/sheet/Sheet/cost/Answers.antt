@@ -1,15 +1,14 @@
--- The pairs are within the array, and the rows are few.
-use Rattle.std.proofs.Common.{◌≤◌, List, length, sym, subst, arith}
+-- The counting statements that the incumbent breaks pass.
+use Rattle.std.proofs.Common.{◌&&◌, sym, ◌∙◌, rules}
+use Rattle.points.specs.Scenarios.{entry}
 use Rattle.rules.specs.declared.row.Row.{Row}
-use Rattle.search.specs.Closed.{rows_of}
-use Rattle.rules.proofs.Properly.{few_rows}
-use Rattle.search.proofs.Closed.{pairs_few}
+use Rattle.rules.specs.Rows.{counts, breaks}
+use Rattle.search.specs.Closed.{rows_of, incumbent_of}
+use Rattle.search.proofs.Loops.{cost_kept}
 use Rattle.search.proofs.sheet.Sheet.cost.Goals as goal
 
-pub slice_bounds-scenario_cost-end : goal.slice_bounds-scenario_cost-end
-slice_bounds-scenario_cost-end g c = omega (arith, pairs_few c.args.self.now.items c.args.self.now.few, c.pairs.ensures)
-
-pub scenario_cost-requires : goal.scenario_cost-requires
-scenario_cost-requires g c =
-    subst (λ (z : List Row). length z ≤ 256) (sym c.as_slice.ensures.value)
-    (few_rows c.args.self.now.items (rows_of c.args.self.now) c.args.self.now.sound)
+pub returns : goal.returns
+returns g c =
+    let a = incumbent_of c.args.self.now in
+    c.join_where.ensures (λ (r : Row). counts r && breaks r (entry a r.low r.high)) (λ r b e. search rules)
+    ∙ sym (cost_kept g.J.Joins.joining (rows_of c.args.self.now) (entry a))

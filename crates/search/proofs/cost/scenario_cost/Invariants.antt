@@ -1,8 +1,0 @@
--- The loop has the cost of the rows before the index.
-use Rattle.std.proofs.Common.{◌≡◌, take}
-use Rattle.points.specs.Scenarios.{entry}
-use Rattle.rules.specs.Costs.{cost}
-use Rattle.search.proofs.cost.scenario_cost.Given as goal
-
-abbrev pub invariant-loop-row : goal.invariant-loop-row
-invariant-loop-row g l = l.sum ≡ cost g.J.Joins.joining (take l.row-index l.rows) (entry l.scenario)

@@ -1,0 +1,38 @@
+-- One more row with each turn, joined if it passes.
+use Rattle.std.proofs.Common.{◌≡◌, ◌≤◌, refl, filter, List, length, get_or, take, sym, ap, ◌∙◌, subst}
+use Rattle.std.proofs.lemmas.Bool.{cond-true, cond-false}
+use Rattle.std.proofs.lemmas.List.{take_all}
+use Rattle.tallies.specs.Joins.{joined}
+use Rattle.tallies.proofs.Along.{monoid_along}
+use Rattle.rules.specs.declared.row.Row.{Row}
+use Rattle.rules.specs.Rows.{claim_of, no_row}
+use Rattle.rules.specs.Costs.{of_rows}
+use Rattle.rules.proofs.Properly.{few_rows}
+use Rattle.search.specs.Closed.{rows_of}
+use Rattle.search.proofs.Loops.{joined_kept_more}
+use Rattle.search.proofs.sheet.Sheet.join_where.Goals as goal
+use Rattle.search.proofs.sheet.Sheet.join_where.Goals.{then-test, else-test}
+
+pub loop-row-preserved : goal.loop-row-preserved
+loop-row-preserved g c p is =
+    let self = c.args.self.now in
+    let j = of_rows g.J.Joins.joining in
+    let rows : List Row = c.rows-rows.result.now in
+    let i = c.loop-row.row-index in
+    let few : length c.rows-rows.result.now ≤ 256 =
+    subst (λ (z : List Row). length z ≤ 256) (sym c.rows-rows.ensures) (few_rows self.items (rows_of self) self.sound) in
+    let more = joined_kept_more j (monoid_along claim_of g.J.Joins.joining g.met.J.Joins.monoid) p rows i no_row few c.loop-row-test.true in
+    let so_far = c.loop-row.invariant p is in
+    let before = joined j (filter p (take i rows)) in
+    let with_it = j.join before (j.penalty (get_or rows i no_row)) in
+    let test : c.test.result ≡ p (get_or rows i no_row) = is (get_or rows i no_row) c.test.result (record { shown = _; shows = refl; says = record { met = c.test.ensures } }) in
+    elim c.if-test.branch [
+      | then-test w ↦ w.sum-is ∙ w.added-sum.ensures ∙ ap (λ z. j.join z (j.penalty (get_or rows i no_row))) so_far
+          ∙ sym (more ∙ cond-true (p (get_or rows i no_row)) with_it before (sym test ∙ w.if-test.true))
+      | else-test w ↦ w.sum-is ∙ so_far ∙ sym (more ∙ cond-false (p (get_or rows i no_row)) with_it before (sym test ∙ w.if-test.false))
+    ]
+
+pub returns : goal.returns
+returns g c p is =
+    c.loop-row.invariant p is
+    ∙ ap (λ (z : List Row). joined (of_rows g.J.Joins.joining) (filter p z)) (take_all c.loop-row.row-index c.rows-rows.result.now c.loop-row-test.false ∙ c.rows-rows.ensures)

@@ -1,0 +1,42 @@
+-- The triples that a pair closes, as the three parts of the scenario have them.
+use Rattle.std.proofs.Common.{◌≡◌, ℕ, ◌+◌, ◌-◌, ◌<◌, ◌≤◌, Bool, not, List, length, get_or, take, drop, sym, ap, ◌∙◌, arith}
+use Rattle.points.specs.Scenarios.{pairs}
+use Rattle.points.proofs.Placed.{pairs_up}
+use Rattle.rules.specs.Steps.{some}
+use Rattle.search.specs.Closed.{rules_of}
+use Rattle.search.proofs.Closed.{pairs_few}
+use Rattle.search.proofs.Prefixes.{parts_some, unfit_closed}
+use Rattle.search.proofs.table.Tables.closes_misfit.Goals as goal
+
+pub sides-low-requires : goal.sides-low-requires
+sides-low-requires g c = omega (arith, pairs_few c.args.self.now.sheet.now.items c.args.self.now.sheet.now.few, c.requires.within)
+
+pub overflow_add-first : goal.overflow_add-first
+overflow_add-first g c =
+    let placed = c.sides-low.ensures.placed in
+    let up = pairs_up c.sides-low.result.0 c.sides-low.result.1 c.sides-low.ensures.rising in
+    omega (arith, pairs_few c.args.self.now.sheet.now.items c.args.self.now.sheet.now.few, c.requires.within, placed, up, c.pairs-first.ensures, c.pairs-third.ensures)
+
+pub slice_bounds-misfits-end : goal.slice_bounds-misfits-end
+slice_bounds-misfits-end g c =
+    let placed = c.sides-low.ensures.placed in
+    let up = pairs_up c.sides-low.result.0 c.sides-low.result.1 c.sides-low.ensures.rising in
+    omega (arith, c.requires, placed, up, c.pairs-first.ensures, c.pairs-third.ensures)
+
+pub returns : goal.returns
+returns g c =
+    let sheet = c.args.self.now.sheet.now in
+    let a : List ℕ = c.args.cursor.now in
+    let fit : ℕ → ℕ → ℕ → Bool = g.K.Kind.fit in
+    let low : ℕ = c.sides-low.result.0 in
+    let high : ℕ = c.sides-low.result.1 in
+    let placed = c.sides-low.ensures.placed in
+    let rising = c.sides-low.ensures.rising in
+    let up : pairs low + low ≤ pairs high = pairs_up low high rising in
+    let test : ℕ → ℕ → Bool = λ x y. not (fit x (get_or a c.args.spot 0) y) in
+    let parts = parts_some test a c.pairs-first.result c.pairs-third.result low
+    (omega (arith, c.requires, placed, up, c.pairs-first.ensures)) (omega (arith, c.requires, placed, c.pairs-third.ensures)) in
+    unfit_closed (rules_of sheet fit g.T.Joins.joining g.T.Tally.order) sheet.items c.args.spot low high a c.misfits.result placed rising c.requires.within
+    (c.misfits.ensures ∙ parts
+    ∙ ap (λ (z : ℕ). some low (λ i. test (get_or a (z + i) 0) (get_or a (c.pairs-third.result + i) 0))) c.pairs-first.ensures
+    ∙ ap (λ (z : ℕ). some low (λ i. test (get_or a (pairs low + i) 0) (get_or a (z + i) 0))) c.pairs-third.ensures)
