@@ -62,7 +62,7 @@ impl LineFault {
 
 /// Where a line stands: in which sheet, 0 before the first head; and its number, counted through the file from 1. Both are 0 for what
 /// is at no line.
-#[derive(Clone, Copy, PartialEq, Eq)]
+#[derive(Clone, Copy, Default, PartialEq, Eq)]
 pub struct Place {
     pub sheet: u32,
     pub line: u32,

@@ -13,7 +13,7 @@ returns-in_err-head-in_default-HeadLine-clause-answer c =
     let l = c.in-Some.line.now in
     let a = answer_at_head c.args.self.now.place q (lines c.args.self.now.ahead.rest.now) (lines c.loop-line.self.ahead.rest.now) (lines c.next.new.self.rest.now) l
     c.loop-line.invariant c.in-Some.ensures (head_known l (sym c.in_default-HeadLine.ensures)) in
-    rw (p.1, p.2) (located_err (record { sheet = q.sheet + 1; line = q.line + 1 }) _ (head_in l) (c.in_err-head-in_default-HeadLine.ensures ∙ ap (placed_at _) c.parse_head.ensures.head) ∙ a)
+    rw (p.1, p.2) (located_err (record { sheet = q.sheet + 1; line = q.line + 1 }) _ (head_in l) (c.in_err-head-in_default-HeadLine.ensures ∙ ap (placed_at _) c.parse_head.ensures) ∙ a)
 
 pub returns-in_default-HeadLine-clause-answer : goal.returns-in_default-HeadLine-clause-answer
 returns-in_default-HeadLine-clause-answer c =
@@ -21,7 +21,7 @@ returns-in_default-HeadLine-clause-answer c =
     let l = c.in-Some.line.now in
     let a = answer_at_head c.args.self.now.place q (lines c.args.self.now.ahead.rest.now) (lines c.loop-line.self.ahead.rest.now) (lines c.next.new.self.rest.now) l
     c.loop-line.invariant c.in-Some.ensures (head_known l (sym c.in_default-HeadLine.ensures)) in
-    located_ok (record { sheet = q.sheet + 1; line = q.line + 1 }) _ (head_in l) (c.in_ok-head-in_default-HeadLine.ensures ∙ ap (placed_at _) c.parse_head.ensures.head) ∙ a
+    located_ok (record { sheet = q.sheet + 1; line = q.line + 1 }) _ (head_in l) (c.in_ok-head-in_default-HeadLine.ensures ∙ ap (placed_at _) c.parse_head.ensures) ∙ a
 
 pub returns-in_default-HeadLine-clause-moved : goal.returns-in_default-HeadLine-clause-moved
 returns-in_default-HeadLine-clause-moved c =
