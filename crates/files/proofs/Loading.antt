@@ -1,5 +1,5 @@
 -- A statement's line, taken by a draft, and the statements one after another.
-use Rattle.std.proofs.Common.{◌≡◌, ℕ, suc, ◌+◌, ◌-◌, ◌≤◌, false, List, [], ◌∷◌, ◌++◌, length, take, drop, Some, None, Ok, Err, Option, sym, refl, ap, ◌∙◌, append_assoc, append-nil, arith, length-append}
+use Rattle.std.proofs.Common.{◌≡◌, ℕ, suc, ◌+◌, ◌-◌, ◌≤◌, false, List, [], ◌∷◌, ◌++◌, length, take, drop, Some, None, Ok, Err, Option, Result, sym, refl, ap, ◌∙◌, append_assoc, append-nil, arith, length-append}
 use Rattle.std.proofs.Math.Seq.{take-append_seam, take-append-add}
 use Rattle.rules.specs.declared.row.Row.{Row}
 use Rattle.statements.specs.declared.entry.Entry.{Entry}
@@ -8,7 +8,7 @@ use Rattle.files.specs.declared.fault.LineFault.{LineFault}
 use Rattle.files.specs.declared.fault.LineFault.TheVariants.{Draft}
 use Rattle.files.specs.declared.fault.At.{At}
 use Rattle.files.specs.declared.fault.Place.{Place}
-use Rattle.files.specs.Faults.{first, answered}
+use Rattle.files.specs.Faults.{first, answered, placed_at}
 use Rattle.files.specs.Drafts.{refused_at, refused_line, line_fault, row_in}
 use Rattle.files.specs.Heads.{is_head}
 use Rattle.files.specs.Sheets.{before, onward}
@@ -43,6 +43,15 @@ entry_accepted None g k x e h r = let s : x ≡ e = cc in accepted (g x) (k x) r
 pub entry_same : (a : Option LineFault) (x e : Entry) → Ok x ≡ answered a e → x ≡ e
 entry_same (Some f) x e h = cc
 entry_same None x e h = cc
+
+-- what was read of an answer with its place
+pub read_fit : {F : Type 0} (p : Place) (r : Result (Unit {0}) F) (x : Unit {0}) → Ok x ≡ placed_at p r → r ≡ Ok tt
+read_fit p (Ok y) x e = refl
+read_fit p (Err f) x e = cc
+
+pub read_unfit : {F : Type 0} (p : Place) (r : Result (Unit {0}) F) (d : At Place F) → Err d ≡ placed_at p r → (r ≡ Err d.fault) × (d.place ≡ p)
+read_unfit p (Ok y) d e = cc
+read_unfit p (Err f) d e = let s : d ≡ record { place = p; fault = f } = cc in (ap (λ x. Err x.fault) (sym s), ap (λ x. x.place) s)
 
 -- from place q, with ms still to come and the rows now entered, a load goes as from p with ls
 pub record Loads (s : Spelling) (items : ℕ) (p : Place) (ls : List (List ℕ)) (rows : List Row) (q : Place) (ms : List (List ℕ)) (now : List Row) : Type 0 where

@@ -1,6 +1,6 @@
 -- A text that is cut at the first place of a byte.
-use Rattle.std.proofs.Common.{◌≡◌, ℕ, zero, suc, ◌+◌, ◌-◌, ◌<◌, ◌≤◌, cond, eqb, List, [], ◌∷◌, ◌++◌, length, get_or, take, drop, Some, None, Option, sym, refl, ap, ◌∙◌, subst, arith, take-append-drop, Bor, All, count_by, false-eqb}
-use native.Mathlib.Nat.{sub-zero}
+use Rattle.std.proofs.Common.{◌≡◌, ℕ, zero, suc, ◌+◌, ◌-◌, ◌<◌, ◌≤◌, cond, eqb, List, [], ◌∷◌, ◌++◌, length, get_or, take, drop, Some, None, Option, sym, refl, ap, ◌∙◌, arith, take-append-drop, Bor, All, count_by, false-eqb}
+use Rattle.std.specs.Option.{unwrap_or}
 use Rattle.std.specs.List.{onto_first, join_with_byte, AllByRecursion}
 use Rattle.std.proofs.lemmas.List.{drop_more, take_rest}
 use Rattle.std.proofs.lemmas.List.Elements.{All-from_recursion}
@@ -60,9 +60,9 @@ pub lines_whole : (text p : List ℕ) → 0 < length text → Whole 10 text p �
 lines_whole [] p h w = absurd (omega arith)
 lines_whole (b ∷ bs) p h w = lines_lacks b bs w.0 ∙ ap (λ q. q ∷ []) w.1
 
--- as the checker reads `&text[0..n]` and `&text[n + 1..]`
-pub cut_at_taken : (c : ℕ) (bs : List ℕ) (n : ℕ) → n < length bs → ((k : ℕ) → k < n → get_or bs k 0 ≡ c → ⊥) → get_or bs n 0 ≡ c → Cut c bs (take (n - 0) bs) (take (length bs - (n + 1)) (drop (n + 1) bs))
-cut_at_taken c bs n h l e = rw (sub-zero, take_rest bs (n + 1)) (cut_at c bs n h l e)
+-- as the checker reads `&text[..n]` and `&text[n + 1..]`
+pub cut_at_taken : (c : ℕ) (bs : List ℕ) (n : ℕ) → n < length bs → ((k : ℕ) → k < n → get_or bs k 0 ≡ c → ⊥) → get_or bs n 0 ≡ c → Cut c bs (take n bs) (take (length bs - (n + 1)) (drop (n + 1) bs))
+cut_at_taken c bs n h l e = rw (take_rest bs (n + 1)) (cut_at c bs n h l e)
 
 -- a cursor that gives its next part
 pub part_given : (c : ℕ) (text p : List ℕ) (rest : Option (Bor (List ℕ))) → Split c text p rest → parted c text ≡ p ∷ left (record { by = c; rest = rest })
@@ -73,11 +73,11 @@ pub lines_none : (text : List ℕ) → length text ≡ 0 → lines text ≡ []
 lines_none [] e = refl
 lines_none (b ∷ bs) e = absurd (omega arith)
 
-pub line_some : (text p : List ℕ) (o : Option (Bor (List ℕ))) (r : Bor (List ℕ)) → Split 10 text p o → o ≡ Some r → lines text ≡ p ∷ lines r.now
-line_some text p o r h e = lines_cut text p r.now (subst (Split 10 text p) e h)
-
-pub line_last : (text p : List ℕ) (o : Option (Bor (List ℕ))) → Split 10 text p o → o ≡ None → (length text ≡ 0 → ⊥) → lines text ≡ p ∷ []
-line_last text p o h e some = lines_whole text p (omega arith) (subst (Split 10 text p) e h)
+-- a cursor that gives its next line: after the last, nothing is left
+pub line_given : (text p : List ℕ) (rest : Option (Bor (List ℕ))) (none : Bor (List ℕ)) → (length text ≡ 0 → ⊥) → Split 10 text p rest → none.now ≡ []
+    → lines text ≡ p ∷ lines (unwrap_or rest none).now
+line_given text p (Some r) none some h e = lines_cut text p r.now h
+line_given text p None none some h e = lines_whole text p (omega arith) h ∙ ap (λ ls. p ∷ lines ls) (sym e)
 
 length-onto_first : (b : ℕ) (ls : List (List ℕ)) → length (onto_first b ls) ≤ suc (length ls)
 length-onto_first b [] = omega arith

@@ -32,12 +32,7 @@ Split c text front None = Lacks c text × (text ≡ front)
 abbrev pub left : Parts → List (List ℕ)
 left p = elim p.rest [ Some r ↦ parted p.by r.now | None ↦ [] ]
 
--- a cursor gives the first of the parts that were left, or there was none
-abbrev pub Gives : Parts → Option (Bor (List ℕ)) → Parts → Type 0
-Gives old (Some p) new = left old ≡ p.now ∷ left new
-Gives old None new = (left old ≡ []) × (left new ≡ [])
-
--- the same of lines
+-- a cursor gives the first of the lines that were left, or there was none
 abbrev pub GivesLine : Lines → Option (Bor (List ℕ)) → Lines → Type 0
 GivesLine old (Some l) new = lines old.rest.now ≡ l.now ∷ lines new.rest.now
 GivesLine old None new = (lines old.rest.now ≡ []) × (new ≡ old)

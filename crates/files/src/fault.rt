@@ -102,10 +102,7 @@ pub struct At<P, E> {
 pub fn placed<P: Drop, T, E>(place: P, answer: Result<T, E>) -> Result<T, At<P, E>>
     ensures { result ≡ placed_at place answer }
 {
-    match answer {
-        Ok(value) => Ok(value),
-        Err(fault) => Err(At { place, fault }),
-    }
+    answer.map_err(|fault| At { place, fault })
 }
 
 impl From<At<u8, FieldFault>> for LineFault {

@@ -8,7 +8,7 @@ ghost use Rattle.files.specs.Words.{spelled};
 ghost use Rattle.rules.specs.Properly.{between};
 ghost use Rattle.statements.specs.Drafts.{row_of};
 
-use crate::fault::{At, LineFault, SheetFault};
+use crate::fault::{At, LineFault, Place, SheetFault, placed};
 use crate::letter::TallyLetter;
 use crate::reader::Spot;
 use crate::statement::parse_entry;
@@ -74,15 +74,7 @@ pub fn load_body<K: Kind + Notation, T: Tally + TallyLetter>(
     ensures loaded { Loaded result (rows_in (spelled K.Kind.meaning K.Notation.words K.Notation.initial T.TallyLetter.initial) (body (ahead_of spot.old))) spot.old.place (ahead_of spot.old) draft.old.rows.items spot.new.place (ahead_of spot.new) draft.new.rows.items }
 {
     while let Some(line) = spot.next_statement() {
-        match enter_line(draft, line) {
-            Ok(()) => {}
-            Err(fault) => {
-                return Err(SheetFault {
-                    place: spot.place,
-                    fault,
-                });
-            }
-        }
+        placed(spot.place, enter_line(draft, line))?;
     }
     Ok(())
 }

@@ -36,9 +36,7 @@ impl<'a> Spot<'a> {
         ensures { GivesStatement self.old.place (ahead_of self.old) result self.new.place (ahead_of self.new) }
     {
         let mut ahead = self.ahead;
-        let Some(line) = ahead.next() else {
-            return None;
-        };
+        let line = ahead.next()?;
         match class_of(line) {
             Class::HeadLine => None,
             Class::StatementLine => {
