@@ -5,7 +5,7 @@ use anyhow::anyhow;
 use dwellings::Dwellings;
 use files::calls::LARGEST;
 use files::fault::SheetFault;
-use files::head::Head;
+use files::head::{Head, HeadKind, HeadTally};
 use files::reader::Reader;
 use moments::Moments;
 use reports::account::account;
@@ -73,21 +73,30 @@ fn settle<K: PrintedKind, T: PrintedTally>(
     Ok(None)
 }
 
-/// The sheet whose head waits, by its letters.
+/// The sheet whose head waits, by the kind and the tally that the head names.
 fn settle_one(
     rt: HostRuntime,
     reader: &mut Reader,
     head: Head,
     number: u64,
 ) -> anyhow::Result<Option<SheetFault>> {
-    match (head.letter, head.tally) {
-        (b'M', b'w') => settle::<Moments, ByWeight>(rt, reader, number),
-        (b'M', b'r') => settle::<Moments, SwornFirst>(rt, reader, number),
-        (b'S', b'w') => settle::<Spells, ByWeight>(rt, reader, number),
-        (b'S', b'r') => settle::<Spells, SwornFirst>(rt, reader, number),
-        (b'D', b'w') => settle::<Dwellings, ByWeight>(rt, reader, number),
-        (b'D', b'r') => settle::<Dwellings, SwornFirst>(rt, reader, number),
-        _ => Err(anyhow!("a head of an unknown kind or tally")),
+    match (head.kind, head.tally) {
+        (HeadKind::Moments, HeadTally::ByWeight) => {
+            settle::<Moments, ByWeight>(rt, reader, number)
+        }
+        (HeadKind::Moments, HeadTally::SwornFirst) => {
+            settle::<Moments, SwornFirst>(rt, reader, number)
+        }
+        (HeadKind::Spells, HeadTally::ByWeight) => settle::<Spells, ByWeight>(rt, reader, number),
+        (HeadKind::Spells, HeadTally::SwornFirst) => {
+            settle::<Spells, SwornFirst>(rt, reader, number)
+        }
+        (HeadKind::Dwellings, HeadTally::ByWeight) => {
+            settle::<Dwellings, ByWeight>(rt, reader, number)
+        }
+        (HeadKind::Dwellings, HeadTally::SwornFirst) => {
+            settle::<Dwellings, SwornFirst>(rt, reader, number)
+        }
     }
 }
 

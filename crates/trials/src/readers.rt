@@ -35,7 +35,7 @@ fn refused(fault: SheetFault) -> Answer {
 /// Asks for the next head.
 fn head(reader: &mut Reader) -> Answer {
     match reader.next_head() {
-        Ok(Some(head)) => Answer::Head(head.letter, head.size, head.tally),
+        Ok(Some(head)) => Answer::Head(head.kind.into(), head.size, head.tally.into()),
         Ok(None) => Answer::NoHead,
         Err(fault) => refused(fault),
     }
