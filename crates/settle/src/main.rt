@@ -24,16 +24,8 @@ const LONGEST_REPORT: usize = 4096;
 
 /// All of standard input, or as much as shows that it is longer than a file may be.
 fn read_file(rt: HostRuntime) -> io::Result<Vec<u8>> {
-    let mut input = rt.stdin();
     let mut file = Vec::new(rt.alloc());
-    let mut part = [0u8; 4096];
-    for _ in 0..u64::MAX {
-        let count = input.read(&mut part)?;
-        file.extend_from_slice(&part[..count])?;
-        if count == 0 || file.len() > LARGEST {
-            break;
-        }
-    }
+    rt.stdin().take(LARGEST as u64 + 1).read_to_end(&mut file)?;
     Ok(file)
 }
 
@@ -104,13 +96,13 @@ fn settle_one(
 fn settle_all(rt: HostRuntime, file: &[u8]) -> anyhow::Result<Option<SheetFault>> {
     let mut reader = Reader::new(file);
     for number in 1..u64::MAX {
-        let fault = match reader.next_head() {
-            Ok(Some(head)) => settle_one(rt, &mut reader, head, number)?,
+        let head = match reader.next_head() {
+            Ok(Some(head)) => head,
             Ok(None) => return Ok(None),
-            Err(fault) => Some(fault),
+            Err(fault) => return Ok(Some(fault)),
         };
-        if fault.is_some() {
-            return Ok(fault);
+        if let Some(fault) = settle_one(rt, &mut reader, head, number)? {
+            return Ok(Some(fault));
         }
     }
     Ok(None)
