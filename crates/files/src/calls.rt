@@ -98,10 +98,7 @@ fn resize<K: Kind, T: Tally>(draft: &mut Draft<K, T>, size: u32)
     ensures size { draft.new.items ≡ size }
     ensures rows { draft.new.rows.items ≡ [] }
 {
-    match draft.size(size) {
-        Ok(()) => {}
-        Err(_) => unreachable(),
-    }
+    draft.size(size).unwrap();
 }
 
 // Empties the list of a draft, which keeps its size.

@@ -103,7 +103,7 @@ impl From<HeadTally> for u8 {
 fn checked_size(size: u32) -> Result<u32, Fault>
     ensures { result ≡ given (between 1 12 size) size Size }
 {
-    if size < 1 || size > 12 {
+    if !(1..=12).contains(&size) {
         return Err(Fault::Size);
     }
     Ok(size)

@@ -24,7 +24,7 @@ fn field_of(fault: Fault, entry: &Entry, items: u8) -> u8
     ensures { result ≡ refusal_field items entry.now fault }
 {
     match fault {
-        Fault::Item if 1 <= entry.first && entry.first <= items as u32 => 2,
+        Fault::Item if (1..=u32::from(items)).contains(&entry.first) => 2,
         Fault::Item => 1,
         Fault::Size | Fault::Same => 2,
         Fault::Code => 3,
@@ -42,13 +42,12 @@ fn enter_at<K: Kind + Notation, T: Tally + TallyLetter>(
     ensures answer { result ≡ refused_at (refusal_field draft.old.items entry) (entry_refusal (spelled K.Kind.meaning K.Notation.words K.Notation.initial T.TallyLetter.initial) draft.old.items draft.old.rows.items entry) }
     ensures entered { Entered result (row_of K.Kind.meaning.converse K.Kind.meaning.codes entry) draft.old.items draft.old.rows.items draft.new.items draft.new.rows.items }
 {
-    match draft.enter(entry) {
-        Ok(_) => Ok(()),
-        Err(fault) => Err(At {
-            place: field_of(fault, &entry, draft.items()),
-            fault,
-        }),
-    }
+    let items = draft.items();
+    draft.enter(entry).map_err(|fault| At {
+        place: field_of(fault, &entry, items),
+        fault,
+    })?;
+    Ok(())
 }
 
 // Enters a statement's line.
