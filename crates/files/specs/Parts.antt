@@ -1,7 +1,7 @@
 -- How a text is parted into lines, fields and words, and what the cursors over them give.
 use Rattle.std.specs.Prelude.{◌≡◌, ℕ, cond, List, [], ◌∷◌, ◌++◌, Some, None, Option, ◌==◌, ◌≢◌}
 use Rattle.std.specs.Borrow.{Bor}
-use Rattle.std.specs.List.{slice_split, onto_first}
+use Rattle.std.specs.List.{slice_split, onto_first, AllByRecursion}
 use Rattle.files.specs.declared.parts.Parts.{Parts}
 use Rattle.files.specs.declared.parts.Lines.{Lines}
 
@@ -20,8 +20,7 @@ fields line = parted 32 line
 
 -- the byte c stands nowhere in a text
 abbrev pub Lacks : ℕ → List ℕ → Type 0
-Lacks c [] = Unit {0}
-Lacks c (b ∷ bs) = (b ≢ c) × Lacks c bs
+Lacks c bs = AllByRecursion (λ b. b ≢ c) bs
 
 -- a text at its first c: what stands before it, and what after it; or that there is none
 abbrev pub Split : ℕ → List ℕ → List ℕ → Option (Bor (List ℕ)) → Type 0
