@@ -1,5 +1,5 @@
 -- One line on in the search for a head.
-use Rattle.std.proofs.Common.{◌≡◌, ℕ, suc, ◌+◌, ◌-◌, ◌≤◌, true, false, cond, ◌&&◌, eqb, leb, List, [], ◌∷◌, length, get_or, drop, Some, None, Ok, Err, Option, Result, sym, refl, ap, ◌∙◌, subst, arith}
+use Rattle.std.proofs.Common.{◌≡◌, ℕ, suc, ◌+◌, ◌-◌, ◌≤◌, true, false, not, cond, ◌&&◌, eqb, leb, List, [], ◌∷◌, length, get_or, drop, Some, None, Ok, Err, Option, Result, sym, refl, ap, ◌∙◌, subst, arith}
 use Rattle.std.proofs.lemmas.Bool.Decides.{nat_tests}
 use Rattle.std.proofs.lemmas.List.{drop-drop}
 use Rattle.files.specs.declared.fault.Place.{Place}
@@ -26,10 +26,10 @@ pub record Same (p : Place) (ls : List (List ℕ)) (q : Place) (ms : List (List 
 
 -- by whether the next line is a head
 pub before_head : (l : List ℕ) (ls : List (List ℕ)) → is_head l ≡ true → before (l ∷ ls) ≡ 0
-before_head l ls y = ap (λ t. cond t 0 (suc (before ls))) y
+before_head l ls y = ap (λ t. cond (not t) (1 + before ls) 0) y
 
 pub before_line : (l : List ℕ) (ls : List (List ℕ)) → is_head l ≡ false → before (l ∷ ls) ≡ suc (before ls)
-before_line l ls n = ap (λ t. cond t 0 (suc (before ls))) n
+before_line l ls n = ap (λ t. cond (not t) (1 + before ls) 0) n ∙ omega arith
 
 pub at_end : (p : Place) → next_head p [] ≡ Ok None
 at_end p = grind (arith, nat_tests)

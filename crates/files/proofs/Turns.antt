@@ -28,7 +28,7 @@ same v b =
 
 before_drop : (ls : List (List ℕ)) → before (drop (before ls) ls) ≡ 0
 before_drop [] = refl
-before_drop (l ∷ ls) = ⊎_elim (λ h. rw h (rw h refl)) (λ h. rw h (before_drop ls)) (cases_Bool (is_head l))
+before_drop (l ∷ ls) = ⊎_elim (λ h. rw h (rw h refl)) (λ h. ap (λ k. before (drop k (l ∷ ls))) (before_line l ls h) ∙ before_drop ls) (cases_Bool (is_head l))
 
 -- where a load ends
 abbrev resume : Place → List (List ℕ) → Place
@@ -195,8 +195,12 @@ module _ (spell : Head → Spelling) where
   listed_first t (l ∷ ls) =
       ⊎_elim
       (λ y. rw y (rw y (ap (λ r. record { head = t.head; rows = r } ∷ sheets_in spell (Some (begun (head_of l))) ls) (sym (append-nil t.rows)))))
-      (λ n. rw n (listed_first (extended (spell t.head) t l) ls
-      ∙ ap (λ r. record { head = t.head; rows = r } ∷ sheets_in spell None (drop (before ls) ls)) (append_assoc t.rows (row_in (spell t.head) l ∷ []) (rows_in (spell t.head) (body ls)))))
+      (λ n.
+      let any : sheets_in spell (Some t) (l ∷ ls) ≡ sheets_in spell (Some (extended (spell t.head) t l)) ls = rw n refl in
+      any
+      ∙ listed_first (extended (spell t.head) t l) ls
+      ∙ ap (λ r. record { head = t.head; rows = r } ∷ sheets_in spell None (drop (before ls) ls)) (append_assoc t.rows (row_in (spell t.head) l ∷ []) (rows_in (spell t.head) (body ls)))
+      ∙ ap (λ k. record { head = t.head; rows = t.rows ++ rows_in (spell t.head) (take k (l ∷ ls)) } ∷ sheets_in spell None (drop k (l ∷ ls))) (sym (before_line l ls n)))
       (cases_Bool (is_head l))
 
   sheet_head : (p : Place) (l : List ℕ) (ls : List (List ℕ)) (h : Head) → is_head l ≡ true → Takes spell (between p (l ∷ ls)) h → (r : Result Head LineFault) → head_in l ≡ r
