@@ -69,10 +69,6 @@ pub part_given : (c : ℕ) (text p : List ℕ) (rest : Option (Bor (List ℕ))) 
 part_given c text p (Some r) h = parted_cut c text p r.now h
 part_given c text p None h = parted_whole c text p h
 
-pub lines_none : (text : List ℕ) → length text ≡ 0 → lines text ≡ []
-lines_none [] e = refl
-lines_none (b ∷ bs) e = absurd (omega arith)
-
 -- a cursor that gives its next line: after the last, nothing is left
 pub line_given : (text p : List ℕ) (rest : Option (Bor (List ℕ))) (none : Bor (List ℕ)) → (length text ≡ 0 → ⊥) → Split 10 text p rest → none.now ≡ []
     → lines text ≡ p ∷ lines (unwrap_or rest none).now

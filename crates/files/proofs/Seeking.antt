@@ -11,7 +11,7 @@ use Rattle.files.specs.declared.fault.At.{At}
 use Rattle.files.specs.declared.fault.LineFault.{LineFault}
 use Rattle.files.specs.Sheets.{before, onward, head_place, located, stray_fault, next_head, class_of, state_of}
 use Rattle.files.specs.declared.class.Class.TheVariants.{HeadLine, StatementLine}
-use Rattle.files.specs.declared.class.State.TheVariants.{NoSheet, InSheet}
+use Rattle.files.specs.declared.class.State.TheVariants.{InSheet}
 use Rattle.std.proofs.lemmas.Bool.{cond-false, and_left, ne_eqb}
 
 -- from q, with ms still to come, the answer is that from p, with ls to come
@@ -127,6 +127,3 @@ located_err p f (Err g) e = cc
 -- a sheet has begun
 pub some_sheet : (p : Place) → state_of p ≡ InSheet → p.sheet ≡ 0 → ⊥
 some_sheet p e z = grind (arith, nat_tests)
-
-pub no_sheet : (p : Place) → state_of p ≡ NoSheet → p.sheet ≡ 0
-no_sheet p e = grind (arith, nat_tests)

@@ -1,5 +1,5 @@
 -- A statement's line as a draft takes it: the line's own faults come first, then the draft's, each at the field that it is about.
-use Rattle.std.specs.Prelude.{◌≡◌, ℕ, cond, List, [], ◌∷◌, ◌++◌, Some, None, Ok, Err, Option, Result}
+use Rattle.std.specs.Prelude.{◌≡◌, ℕ, cond, List, [], ◌∷◌, ◌++◌, Ok, Err, Option, Result}
 use Rattle.std.specs.Option.{option_map}
 use Rattle.rules.specs.declared.row.Row.{Row}
 use Rattle.rules.specs.Properly.{between}
