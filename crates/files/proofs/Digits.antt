@@ -1,8 +1,9 @@
 -- One digit more of a number, and that a number is what is written for it.
-use Rattle.std.proofs.Common.{◌≡◌, ◌↔◌, ℕ, ◌+◌, ◌-◌, ◌*◌, ◌^◌, ◌<◌, ◌≤◌, Bool, true, false, ◌&&◌, List, [], ◌∷◌, length, get_or, drop, fold, Ok, Result, sym, refl, ap, ◌∙◌, ⊎_elim, arith}
-use Rattle.std.proofs.lemmas.List.{drop_more}
+use Rattle.std.proofs.Common.{◌≡◌, ◌↔◌, ℕ, ◌+◌, ◌-◌, ◌*◌, ◌^◌, ◌<◌, ◌≤◌, Bool, true, false, List, ◌∷◌, length, get_or, fold, Ok, Result, sym, refl, ap, ◌∙◌, ⊎_elim, arith}
 use Rattle.std.proofs.lemmas.Bool.Decides.{nat_tests}
+use Rattle.std.specs.Char.{is_ascii_digit}
 use Rattle.std.specs.Fmt.{decimal}
+use Rattle.std.specs.List.{list_all}
 use Rattle.std.proofs.Math.Nat.{pow-le-pow_right}
 use Rattle.std.specs.Int.{IsInRange}
 use Rattle.std.proofs.lemmas.Bool.{cases_eq}
@@ -12,44 +13,30 @@ use Rattle.std.proofs.lemmas.Int.Digits.{digits_value-lt}
 use Rattle.files.specs.declared.fault.FieldFault.{FieldFault}
 use Rattle.files.specs.declared.fault.FieldFault.TheVariants.{NotNumber}
 use Rattle.files.specs.Faults.{given}
-use Rattle.files.specs.Numbers.{is_digit, all_digits, value_of, is_number, number_in}
-
-pub all_more : (xs : List ℕ) (i : ℕ) → i < length xs → 48 ≤ get_or xs i 0 → get_or xs i 0 < 58 → all_digits (drop i xs) ≡ all_digits (drop (i + 1) xs)
-all_more xs i h p q =
-    let d : is_digit (get_or xs i 0) ≡ true = grind (arith, nat_tests) in
-    ap all_digits (drop_more xs i 0 h) ∙ ap (λ t. t && all_digits (drop (i + 1) xs)) d
-
-pub all_stop : (xs : List ℕ) (i : ℕ) → i < length xs → is_digit (get_or xs i 0) ≡ false → all_digits (drop i xs) ≡ false
-all_stop xs i h d = ap all_digits (drop_more xs i 0 h) ∙ ap (λ t. t && all_digits (drop (i + 1) xs)) d
-
-pub just_zero : (bs : List ℕ) → length bs ≡ 1 → get_or bs 0 0 ≡ 48 → number_in bs ≡ Ok 0
-unfolding is_number
-just_zero [] h e = absurd (omega arith)
-just_zero (b ∷ []) h e = ap (λ x. number_in (x ∷ [])) e
-just_zero (b ∷ x ∷ bs) h e = absurd (omega arith)
+use Rattle.files.specs.Numbers.{value_of, is_number, number_in}
 
 -- digits, one by one
-digit_parts : (b : ℕ) (bs : List ℕ) → all_digits (b ∷ bs) ≡ true → IsInRange 48 57 b × (all_digits bs ≡ true)
+digit_parts : (b : ℕ) (bs : List ℕ) → list_all is_ascii_digit (b ∷ bs) ≡ true → IsInRange 48 57 b × (list_all is_ascii_digit bs ≡ true)
 digit_parts b bs e = grind (arith, nat_tests)
 
-digit_more : (b : ℕ) (bs : List ℕ) → IsInRange 48 57 b → all_digits bs ≡ true → all_digits (b ∷ bs) ≡ true
+digit_more : (b : ℕ) (bs : List ℕ) → IsInRange 48 57 b → list_all is_ascii_digit bs ≡ true → list_all is_ascii_digit (b ∷ bs) ≡ true
 digit_more b bs h e = grind (arith, nat_tests)
 
 abbrev folded : ℕ → List ℕ → ℕ
 folded n bs = fold (λ m b. m * 10 + (b - 48)) n bs
 
-numerals : IsNumeralModel (λ bs. all_digits bs ≡ true) value_of
-numerals = numerals_by_fold (λ bs. all_digits bs ≡ true) (record { empty = refl; parts = digit_parts; more = digit_more }) folded
+numerals : IsNumeralModel (λ bs. list_all is_ascii_digit bs ≡ true) value_of
+numerals = numerals_by_fold (λ bs. list_all is_ascii_digit bs ≡ true) (record { empty = refl; parts = digit_parts; more = digit_more }) folded
     (record { empty = λ n. refl; more = λ n c cs h. refl })
 
-below_million : (bs : List ℕ) → all_digits bs ≡ true → length bs ≤ 6 → value_of bs < 10 ^ 6
+below_million : (bs : List ℕ) → list_all is_ascii_digit bs ≡ true → length bs ≤ 6 → value_of bs < 10 ^ 6
 below_million bs d l = omega (arith, numerals.same bs (numerals.to bs d), digits_value-lt 10 bs (numerals.to bs d), pow-le-pow_right {n = 10} (omega arith) l)
 
-number_parts : (bs : List ℕ) → is_number bs ≡ true → (0 < length bs) × (length bs ≤ 6) × (all_digits bs ≡ true) × (get_or bs 0 0 ≡ 48 → length bs ≡ 1)
+number_parts : (bs : List ℕ) → is_number bs ≡ true → (0 < length bs) × (length bs ≤ 6) × (list_all is_ascii_digit bs ≡ true) × (get_or bs 0 0 ≡ 48 → length bs ≡ 1)
 unfolding is_number
 number_parts bs e = (grind (arith, nat_tests), grind (arith, nat_tests), grind (arith, nat_tests), λ z. grind (arith, nat_tests))
 
-number_by : (bs : List ℕ) → 0 < length bs → length bs ≤ 6 → all_digits bs ≡ true → (get_or bs 0 0 ≡ 48 → length bs ≡ 1) → is_number bs ≡ true
+number_by : (bs : List ℕ) → 0 < length bs → length bs ≤ 6 → list_all is_ascii_digit bs ≡ true → (get_or bs 0 0 ≡ 48 → length bs ≡ 1) → is_number bs ≡ true
 unfolding is_number
 number_by bs a b d z = grind (arith, nat_tests)
 

@@ -1,5 +1,5 @@
 -- A statement's line, taken by a draft, and the statements one after another.
-use Rattle.std.proofs.Common.{◌≡◌, ℕ, suc, ◌+◌, ◌-◌, ◌≤◌, false, List, [], ◌∷◌, ◌++◌, length, take, drop, Some, None, Ok, Err, Option, sym, refl, ap, ◌∙◌, append_assoc, append-nil, arith, length-append}
+use Rattle.std.proofs.Common.{◌≡◌, ℕ, suc, ◌+◌, ◌-◌, ◌≤◌, false, List, [], ◌∷◌, ◌++◌, length, take, drop, Some, None, Ok, Err, Option, Result, sym, refl, ap, ◌∙◌, append_assoc, arith, length-append}
 use Rattle.std.proofs.Math.Seq.{take-append_seam, take-append-add}
 use Rattle.rules.specs.declared.row.Row.{Row}
 use Rattle.statements.specs.declared.entry.Entry.{Entry}
@@ -8,18 +8,13 @@ use Rattle.files.specs.declared.fault.LineFault.{LineFault}
 use Rattle.files.specs.declared.fault.LineFault.TheVariants.{Draft}
 use Rattle.files.specs.declared.fault.At.{At}
 use Rattle.files.specs.declared.fault.Place.{Place}
-use Rattle.files.specs.Faults.{first, answered}
+use Rattle.files.specs.Faults.{first, answered, placed_at}
 use Rattle.files.specs.Drafts.{refused_at, refused_line, line_fault, row_in}
 use Rattle.files.specs.Heads.{is_head}
 use Rattle.files.specs.Sheets.{before, onward}
 use Rattle.files.specs.Loads.{body, body_fault, rows_in, Loaded}
 use Rattle.files.specs.Words.{Spelling}
 use Rattle.files.proofs.Seeking.{before_line, one_read}
-
--- the line itself is unfit
-pub line_unfit : (a b : Option LineFault) (e : Entry) (f : LineFault) → Err f ≡ answered a e → Err f ≡ answered (first (a ∷ b ∷ [])) (tt {0})
-line_unfit (Some g) b e f h = cc
-line_unfit None b e f h = cc
 
 refused : (g : Fault → ℕ) (o : Option Fault) (d : At ℕ Fault) → Err d ≡ refused_at g o → Err (Draft d.place d.fault) ≡ answered (first (refused_line g o ∷ [])) (tt {0})
 refused g (Some f) d h = let s : d ≡ record { place = g f; fault = f } = cc in ap (λ x. Err (Draft x.place x.fault)) s
@@ -30,19 +25,14 @@ pub entry_refused : (a : Option LineFault) (g : Entry → Fault → ℕ) (k : En
 entry_refused (Some f) g k x e d h r = cc
 entry_refused None g k x e d h r = let s : x ≡ e = cc in refused (g x) (k x) d r ∙ ap (λ y. answered (first (refused_line (g y) (k y) ∷ [])) (tt {0})) s
 
-accepted : (g : Fault → ℕ) (o : Option Fault) → Ok tt ≡ refused_at g o → Ok (tt {0}) ≡ answered (first (refused_line g o ∷ [])) (tt {0})
-accepted g (Some f) h = cc
-accepted g None h = refl
+-- what was read of an answer with its place
+pub read_fit : {F : Type 0} (p : Place) (r : Result (Unit {0}) F) (x : Unit {0}) → Ok x ≡ placed_at p r → r ≡ Ok tt
+read_fit p (Ok y) x e = refl
+read_fit p (Err f) x e = cc
 
--- and it takes its entry
-pub entry_accepted : (a : Option LineFault) (g : Entry → Fault → ℕ) (k : Entry → Option Fault) (x e : Entry) → Ok x ≡ answered a e → Ok tt ≡ refused_at (g x) (k x) → Ok (tt {0}) ≡ answered (first (a ∷ refused_line (g e) (k e) ∷ [])) (tt {0})
-entry_accepted (Some f) g k x e h r = cc
-entry_accepted None g k x e h r = let s : x ≡ e = cc in accepted (g x) (k x) r ∙ ap (λ y. answered (first (refused_line (g y) (k y) ∷ [])) (tt {0})) s
-
--- a fit line gives its entry
-pub entry_same : (a : Option LineFault) (x e : Entry) → Ok x ≡ answered a e → x ≡ e
-entry_same (Some f) x e h = cc
-entry_same None x e h = cc
+pub read_unfit : {F : Type 0} (p : Place) (r : Result (Unit {0}) F) (d : At Place F) → Err d ≡ placed_at p r → (r ≡ Err d.fault) × (d.place ≡ p)
+read_unfit p (Ok y) d e = cc
+read_unfit p (Err f) d e = let s : d ≡ record { place = p; fault = f } = cc in (ap (λ x. Err x.fault) (sym s), ap (λ x. x.place) s)
 
 -- from place q, with ms still to come and the rows now entered, a load goes as from p with ls
 pub record Loads (s : Spelling) (items : ℕ) (p : Place) (ls : List (List ℕ)) (rows : List Row) (q : Place) (ms : List (List ℕ)) (now : List Row) : Type 0 where
@@ -107,18 +97,3 @@ stopped s items p ls rows q ms ns now l g e new q' f same on =
       one_read p q ls ms ns l g.from g.read e ∙ ap (λ x. drop (x.line - p.line) ls) (sym on),
       same ∙ rows_read s items p ls rows q ms now g ∙ ap (λ n. rows ++ take n (rows_in s (body ls))) k,
     )
-
--- no statement is left
-module _ (s : Spelling) (items : ℕ) (p : Place) (ls : List (List ℕ)) (rows : List Row) (q : Place) (ms : List (List ℕ)) (now : List Row)
-    (g : Loads s items p ls rows q ms now) (e : before ms ≡ 0) where
-  none_left : body ms ≡ []
-  none_left = ap (λ k. take k ms) e
-
-  pub body_fit : Ok (tt {0}) ≡ answered (body_fault s items p rows (body ls)) (tt {0})
-  body_fit = ap (λ b. answered (body_fault s items q now b) (tt {0})) (sym none_left) ∙ ap (λ o. answered o (tt {0})) g.fault
-
-  pub body_rows : now ≡ rows ++ rows_in s (body ls)
-  body_rows = sym (append-nil now) ∙ ap (λ b. now ++ rows_in s b) (sym none_left) ∙ g.all
-
-  pub body_rest : ms ≡ drop (before ls) ls
-  body_rest = ap (λ k. drop k ms) (sym e) ∙ g.rest

@@ -1,11 +1,10 @@
 -- A text that is cut at the first place of a byte.
-use Rattle.std.proofs.Common.{◌≡◌, ℕ, zero, suc, ◌+◌, ◌-◌, ◌<◌, ◌≤◌, cond, eqb, List, [], ◌∷◌, ◌++◌, length, get_or, take, drop, Some, None, Option, sym, refl, ap, ◌∙◌, subst, arith, take-append-drop, Bor, All, count_by, false-eqb}
-use native.Mathlib.Nat.{sub-zero}
+use Rattle.std.proofs.Common.{◌≡◌, ℕ, suc, ◌+◌, ◌<◌, ◌≤◌, false, eqb, List, [], ◌∷◌, ◌++◌, length, Some, None, Option, sym, refl, ap, ◌∙◌, arith, Bor, All, count_by, false-eqb}
+use Rattle.std.specs.Option.{unwrap_or}
 use Rattle.std.specs.List.{onto_first, join_with_byte, AllByRecursion}
-use Rattle.std.proofs.lemmas.List.{drop_more, take_rest}
-use Rattle.std.proofs.lemmas.List.Elements.{All-from_recursion}
-use Rattle.std.proofs.lemmas.List.Splits.{join_with_byte-slice_split, length-slice_split}
-use Rattle.std.proofs.lemmas.Bool.{eq-eqb, ne_eqb, cond-true, cond-false, cond_both}
+use Rattle.std.proofs.lemmas.List.Elements.{All-from_recursion, All-weaker}
+use Rattle.std.proofs.lemmas.List.Splits.{join_with_byte-slice_split, length-slice_split, slice_split_at, slice_split_none}
+use Rattle.std.proofs.lemmas.Bool.{eq-eqb, ne_eqb, cond-false, cond_both}
 use Rattle.files.specs.Parts.{parted, lines, Lacks, Split, left}
 
 abbrev pub Cut : ℕ → List ℕ → List ℕ → List ℕ → Type 0
@@ -14,43 +13,22 @@ Cut c text front rest = Lacks c front × (text ≡ front ++ (c ∷ rest))
 abbrev pub Whole : ℕ → List ℕ → List ℕ → Type 0
 Whole c text front = Lacks c text × (text ≡ front)
 
--- the first n bytes lack c
-pub lacks_front : (c : ℕ) (bs : List ℕ) (n : ℕ) → n ≤ length bs → ((k : ℕ) → k < n → get_or bs k 0 ≡ c → ⊥) → Lacks c (take n bs)
-lacks_front c bs zero h l = tt
-lacks_front c [] (suc n) h l = tt
-lacks_front c (b ∷ bs) (suc n) h l = (l 0 (omega arith), lacks_front c bs n (omega arith) (λ k lt. l (suc k) (omega arith)))
-
-pub lacks_all : (c : ℕ) (bs : List ℕ) (n : ℕ) → length bs ≤ n → ((k : ℕ) → k < n → get_or bs k 0 ≡ c → ⊥) → Lacks c bs
-lacks_all c [] n h l = tt
-lacks_all c (b ∷ bs) n h l = (l 0 (omega arith), lacks_all c bs (length bs) (omega arith) (λ k lt. l (suc k) (omega arith)))
-
--- cut at the place n of the first c
-pub cut_at : (c : ℕ) (bs : List ℕ) (n : ℕ) → n < length bs → ((k : ℕ) → k < n → get_or bs k 0 ≡ c → ⊥) → get_or bs n 0 ≡ c → Cut c bs (take n bs) (drop (n + 1) bs)
-cut_at c bs n h l e = (
-  lacks_front c bs n (omega arith) l,
-  sym (take-append-drop n bs)
-      ∙ ap (λ r. take n bs ++ r) (drop_more bs n 0 h ∙ ap (λ b. b ∷ drop (n + 1) bs) e),
-)
-
--- f parts a text at the bytes c
-module _ (c : ℕ) (f : List ℕ → List (List ℕ)) (step : (b : ℕ) (bs : List ℕ) → f (b ∷ bs) ≡ cond (eqb b c) ([] ∷ f bs) (onto_first b (f bs))) where
-  cut_first : (p rest : List ℕ) → Lacks c p → f (p ++ (c ∷ rest)) ≡ p ∷ f rest
-  cut_first [] rest l = step c rest ∙ cond-true _ _ _ (eq-eqb c c refl)
-  cut_first (b ∷ bs) rest l =
-      step b (bs ++ (c ∷ rest)) ∙ cond-false _ _ _ (ne_eqb b c l.0) ∙ ap (onto_first b) (cut_first bs rest l.1)
+-- no byte of the text is c
+none_is : (c : ℕ) (bs : List ℕ) → Lacks c bs → All (λ b. eqb b c ≡ false) bs
+none_is c bs l = All-weaker (λ b. b ≡ c → ⊥) (λ b. eqb b c ≡ false) (λ b. ne_eqb b c) bs (All-from_recursion (λ b. b ≡ c → ⊥) bs l)
 
 pub parted_cut : (c : ℕ) (text p rest : List ℕ) → Cut c text p rest → parted c text ≡ p ∷ parted c rest
-parted_cut c text p rest h = ap (parted c) h.1 ∙ cut_first c (parted c) (λ b bs. refl) p rest h.0
-
-pub lines_cut : (text p rest : List ℕ) → Cut 10 text p rest → lines text ≡ p ∷ lines rest
-lines_cut text p rest h = ap lines h.1 ∙ cut_first 10 lines (λ b bs. refl) p rest h.0
-
-parted_lacks : (c : ℕ) (bs : List ℕ) → Lacks c bs → parted c bs ≡ bs ∷ []
-parted_lacks c [] l = refl
-parted_lacks c (b ∷ bs) l = cond-false _ _ _ (ne_eqb b c l.0) ∙ ap (onto_first b) (parted_lacks c bs l.1)
+parted_cut c text p rest h = ap (parted c) h.1 ∙ slice_split_at (λ b. eqb b c) p c rest (none_is c p h.0) (eq-eqb c c refl)
 
 pub parted_whole : (c : ℕ) (text p : List ℕ) → Whole c text p → parted c text ≡ p ∷ []
-parted_whole c text p h = parted_lacks c text h.0 ∙ ap (λ q. q ∷ []) h.1
+parted_whole c text p h = slice_split_none (λ b. eqb b c) text (none_is c text h.0) ∙ ap (λ q. q ∷ []) h.1
+
+lines_first : (p rest : List ℕ) → Lacks 10 p → lines (p ++ (10 ∷ rest)) ≡ p ∷ lines rest
+lines_first [] rest l = refl
+lines_first (b ∷ bs) rest l = cond-false _ _ _ (ne_eqb b 10 l.0) ∙ ap (onto_first b) (lines_first bs rest l.1)
+
+pub lines_cut : (text p rest : List ℕ) → Cut 10 text p rest → lines text ≡ p ∷ lines rest
+lines_cut text p rest h = ap lines h.1 ∙ lines_first p rest h.0
 
 lines_lacks : (b : ℕ) (bs : List ℕ) → Lacks 10 (b ∷ bs) → lines (b ∷ bs) ≡ (b ∷ bs) ∷ []
 lines_lacks b [] l = cond-false _ _ _ (ne_eqb b 10 l.0)
@@ -60,24 +38,16 @@ pub lines_whole : (text p : List ℕ) → 0 < length text → Whole 10 text p �
 lines_whole [] p h w = absurd (omega arith)
 lines_whole (b ∷ bs) p h w = lines_lacks b bs w.0 ∙ ap (λ q. q ∷ []) w.1
 
--- as the checker reads `&text[0..n]` and `&text[n + 1..]`
-pub cut_at_taken : (c : ℕ) (bs : List ℕ) (n : ℕ) → n < length bs → ((k : ℕ) → k < n → get_or bs k 0 ≡ c → ⊥) → get_or bs n 0 ≡ c → Cut c bs (take (n - 0) bs) (take (length bs - (n + 1)) (drop (n + 1) bs))
-cut_at_taken c bs n h l e = rw (sub-zero, take_rest bs (n + 1)) (cut_at c bs n h l e)
-
 -- a cursor that gives its next part
 pub part_given : (c : ℕ) (text p : List ℕ) (rest : Option (Bor (List ℕ))) → Split c text p rest → parted c text ≡ p ∷ left (record { by = c; rest = rest })
 part_given c text p (Some r) h = parted_cut c text p r.now h
 part_given c text p None h = parted_whole c text p h
 
-pub lines_none : (text : List ℕ) → length text ≡ 0 → lines text ≡ []
-lines_none [] e = refl
-lines_none (b ∷ bs) e = absurd (omega arith)
-
-pub line_some : (text p : List ℕ) (o : Option (Bor (List ℕ))) (r : Bor (List ℕ)) → Split 10 text p o → o ≡ Some r → lines text ≡ p ∷ lines r.now
-line_some text p o r h e = lines_cut text p r.now (subst (Split 10 text p) e h)
-
-pub line_last : (text p : List ℕ) (o : Option (Bor (List ℕ))) → Split 10 text p o → o ≡ None → (length text ≡ 0 → ⊥) → lines text ≡ p ∷ []
-line_last text p o h e some = lines_whole text p (omega arith) (subst (Split 10 text p) e h)
+-- a cursor that gives its next line: after the last, nothing is left
+pub line_given : (text p : List ℕ) (rest : Option (Bor (List ℕ))) (none : Bor (List ℕ)) → (length text ≡ 0 → ⊥) → Split 10 text p rest → none.now ≡ []
+    → lines text ≡ p ∷ lines (unwrap_or rest none).now
+line_given text p (Some r) none some h e = lines_cut text p r.now h
+line_given text p None none some h e = lines_whole text p (omega arith) h ∙ ap (λ ls. p ∷ lines ls) (sym e)
 
 length-onto_first : (b : ℕ) (ls : List (List ℕ)) → length (onto_first b ls) ≤ suc (length ls)
 length-onto_first b [] = omega arith

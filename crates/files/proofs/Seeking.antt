@@ -1,5 +1,5 @@
 -- One line on in the search for a head.
-use Rattle.std.proofs.Common.{◌≡◌, ℕ, suc, ◌+◌, ◌-◌, ◌≤◌, true, false, cond, ◌&&◌, eqb, leb, List, [], ◌∷◌, length, get_or, drop, Some, None, Ok, Err, Option, Result, sym, refl, ap, ◌∙◌, subst, arith}
+use Rattle.std.proofs.Common.{◌≡◌, ℕ, suc, ◌+◌, ◌-◌, ◌≤◌, true, false, not, cond, ◌&&◌, eqb, leb, List, [], ◌∷◌, length, get_or, drop, Some, None, Ok, Err, Option, Result, sym, refl, ap, ◌∙◌, subst, arith}
 use Rattle.std.proofs.lemmas.Bool.Decides.{nat_tests}
 use Rattle.std.proofs.lemmas.List.{drop-drop}
 use Rattle.files.specs.declared.fault.Place.{Place}
@@ -11,7 +11,7 @@ use Rattle.files.specs.declared.fault.At.{At}
 use Rattle.files.specs.declared.fault.LineFault.{LineFault}
 use Rattle.files.specs.Sheets.{before, onward, head_place, located, stray_fault, next_head, class_of, state_of}
 use Rattle.files.specs.declared.class.Class.TheVariants.{HeadLine, StatementLine}
-use Rattle.files.specs.declared.class.State.TheVariants.{NoSheet, InSheet}
+use Rattle.files.specs.declared.class.State.TheVariants.{InSheet}
 use Rattle.std.proofs.lemmas.Bool.{cond-false, and_left, ne_eqb}
 
 -- from q, with ms still to come, the answer is that from p, with ls to come
@@ -26,10 +26,10 @@ pub record Same (p : Place) (ls : List (List ℕ)) (q : Place) (ms : List (List 
 
 -- by whether the next line is a head
 pub before_head : (l : List ℕ) (ls : List (List ℕ)) → is_head l ≡ true → before (l ∷ ls) ≡ 0
-before_head l ls y = ap (λ t. cond t 0 (suc (before ls))) y
+before_head l ls y = ap (λ t. cond (not t) (1 + before ls) 0) y
 
 pub before_line : (l : List ℕ) (ls : List (List ℕ)) → is_head l ≡ false → before (l ∷ ls) ≡ suc (before ls)
-before_line l ls n = ap (λ t. cond t 0 (suc (before ls))) n
+before_line l ls n = ap (λ t. cond (not t) (1 + before ls) 0) n ∙ omega arith
 
 pub at_end : (p : Place) → next_head p [] ≡ Ok None
 at_end p = grind (arith, nat_tests)
@@ -127,6 +127,3 @@ located_err p f (Err g) e = cc
 -- a sheet has begun
 pub some_sheet : (p : Place) → state_of p ≡ InSheet → p.sheet ≡ 0 → ⊥
 some_sheet p e z = grind (arith, nat_tests)
-
-pub no_sheet : (p : Place) → state_of p ≡ NoSheet → p.sheet ≡ 0
-no_sheet p e = grind (arith, nat_tests)

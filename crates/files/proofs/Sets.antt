@@ -2,10 +2,10 @@
 use Rattle.std.proofs.Common.{◌≡◌, ℕ, ◌^◌, ◌<◌, Bool, true, false, cond, eqb, ltb, ◌||◌, List, [], ◌∷◌, length, Ok, Some, None, Option, Result, IfOk, sym, refl, ap, ◌∙◌, subst, inl, inr, ◌⊎◌, ⊎_elim, Decides, zero, suc, arith, ltb-true}
 use lib.Bits.{bit_or, or_lt}
 use Rattle.std.specs.List.{Any}
-use Rattle.std.proofs.lemmas.Bool.{cases_Bool, cases_eq}
+use Rattle.std.proofs.lemmas.Bool.{cases_Bool, cases_eq, ne_eqb}
 use Rattle.std.proofs.lemmas.Bool.Decides.{nat_tests}
-use Rattle.std.proofs.lemmas.Nat.Bits.{bit_at_or, bit_at-pow_same, bit_at-pow_other, bit_at-zero}
 use Rattle.points.specs.Sets.{has}
+use Rattle.points.proofs.United.{has_union, has_none, has_single}
 use Rattle.std.proofs.lemmas.Nat.{pow_pos, pow_below}
 use Rattle.kinds.specs.Words.{read}
 use Rattle.files.specs.Parts.{parted}
@@ -48,12 +48,6 @@ unfolding set_of
 set_fits codes names field = with_fits codes names 0 (words field) (pow_pos codes)
 
 -- A set that is read from words has exactly their codes.
-has_or : (a b c : ℕ) → has (bit_or a b) c ≡ (has a c || has b c)
-has_or a b c = grind (arith, nat_tests, bit_at_or a b c)
-
-has_code : (c : ℕ) → has (2 ^ c) c ≡ true
-has_code c = grind (arith, nat_tests, bit_at-pow_same c)
-
 module _ (code : List ℕ → Option ℕ) (c : ℕ) where
   abbrev Says : List ℕ → Type 0
   Says w = code w ≡ Some c
@@ -69,17 +63,17 @@ module _ (code : List ℕ → Option ℕ) (c : ℕ) where
 
   keeps : (set : ℕ) (o : Option ℕ) → has set c ≡ true → has (add set o) c ≡ true
   keeps set None h = h
-  keeps set (Some d) h = has_or set (2 ^ d) c ∙ ap (λ b. b || has (2 ^ d) c) h
+  keeps set (Some d) h = has_union set (2 ^ d) c ∙ ap (λ b. b || has (2 ^ d) c) h
 
   gains : (set : ℕ) (o : Option ℕ) → o ≡ Some c → has (add set o) c ≡ true
-  gains set o e = ap (λ x. has (add set x) c) e ∙ has_or set (2 ^ c) c ∙ grind (arith, nat_tests, has_code c)
+  gains set o e = ap (λ x. has (add set x) c) e ∙ has_union set (2 ^ c) c ∙ grind (arith, nat_tests, has_single c c)
 
   comes : (set : ℕ) (o : Option ℕ) → has (add set o) c ≡ true → (has set c ≡ true) ⊎ (o ≡ Some c)
   comes set None h = inl h
   comes set (Some d) h =
       ⊎_elim
       (λ e. inr (ap Some e))
-      (λ n. inl (grind (arith, nat_tests, has_or set (2 ^ d) c, bit_at-pow_other d c (λ e. n (sym e)))))
+      (λ n. inl (grind (arith, nat_tests, has_union set (2 ^ d) c, has_single d c, ne_eqb c d (λ e. n (sym e)))))
       (cases_eq d c)
 
   keeps_all : (set : ℕ) (ws : List (List ℕ)) → has set c ≡ true → has (with_words code set ws) c ≡ true
@@ -102,7 +96,7 @@ module _ (code : List ℕ → Option ℕ) (c : ℕ) where
 named : (code : List ℕ → Option ℕ) (field : List ℕ) (c : ℕ) → Decides (has (set_of code field) c) (Names code field c)
 unfolding set_of
 named code field c = (
-  λ h. ⊎_elim (λ z. absurd (grind (arith, nat_tests, bit_at-zero c))) (λ a. a) (named_has code c 0 (words field) h),
+  λ h. ⊎_elim (λ z. absurd (grind (arith, nat_tests, has_none c))) (λ a. a) (named_has code c 0 (words field) h),
   λ a. has_named code c 0 (words field) a,
 )
 

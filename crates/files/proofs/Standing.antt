@@ -1,7 +1,8 @@
 -- A reader that is moved on stands where its place says.
-use Rattle.std.proofs.Common.{◌≡◌, ℕ, suc, ◌+◌, ◌<◌, ◌≤◌, Bool, true, false, cond, leb, List, [], ◌∷◌, ◌++◌, length, take, drop, Some, None, Ok, Err, Option, Result, sym, refl, ap, ◌∙◌, subst, ⊎_elim, add-zero, zero-add, arith, take-add}
+use Rattle.std.proofs.Common.{◌≡◌, ℕ, suc, ◌+◌, ◌<◌, ◌≤◌, Bool, true, false, cond, leb, List, [], ◌∷◌, length, take, drop, Some, None, Ok, Err, Option, Result, sym, refl, ap, ◌∙◌, subst, ⊎_elim, add-zero, arith, take-add}
 use Rattle.std.proofs.lemmas.List.{drop-drop, drop_all, take_all}
 use Rattle.std.proofs.lemmas.Bool.{cases_Bool, leb-true, leb-false}
+use Rattle.std.proofs.lemmas.List.Sums.{sum_by-cons, sum_by-append}
 use Rattle.files.specs.declared.fault.LineFault.{LineFault}
 use Rattle.files.specs.declared.fault.Place.{Place}
 use Rattle.files.specs.declared.fault.SheetFault.{SheetFault}
@@ -15,22 +16,14 @@ use Rattle.files.proofs.Seeking.{before_head, before_line}
 
 -- by whether a line is a head
 heads_yes : (l : List ℕ) (ls : List (List ℕ)) → is_head l ≡ true → heads (l ∷ ls) ≡ suc (heads ls)
-heads_yes l ls h = ap (λ t. cond t (suc (heads ls)) (heads ls)) h
+heads_yes l ls h = omega (arith, sum_by-cons (λ x. cond (is_head x) 1 0) l ls, ap {B = ℕ} (λ t. cond t 1 0) h)
 
 heads_no : (l : List ℕ) (ls : List (List ℕ)) → is_head l ≡ false → heads (l ∷ ls) ≡ heads ls
-heads_no l ls h = ap (λ t. cond t (suc (heads ls)) (heads ls)) h
-
-heads_append : (xs ys : List (List ℕ)) → heads (xs ++ ys) ≡ heads xs + heads ys
-heads_append [] ys = sym (zero-add (heads ys))
-heads_append (l ∷ ls) ys =
-    ⊎_elim
-    (λ h. omega (arith, heads_yes l ls h, heads_yes l (ls ++ ys) h, heads_append ls ys))
-    (λ h. omega (arith, heads_no l ls h, heads_no l (ls ++ ys) h, heads_append ls ys))
-    (cases_Bool (is_head l))
+heads_no l ls h = omega (arith, sum_by-cons (λ x. cond (is_head x) 1 0) l ls, ap {B = ℕ} (λ t. cond t 1 0) h)
 
 -- n lines, and k after them
 heads_more : (n k : ℕ) (ls : List (List ℕ)) → heads (take n ls) + heads (take k (drop n ls)) ≡ heads (take (n + k) ls)
-heads_more n k ls = sym (ap heads (take-add n k ls) ∙ heads_append (take n ls) (take k (drop n ls)))
+heads_more n k ls = sym (ap heads (take-add n k ls) ∙ sum_by-append (λ l. cond (is_head l) 1 0) (take n ls) (take k (drop n ls)))
 
 -- no head stands before the next
 pub heads_before : (ls : List (List ℕ)) → heads (take (before ls) ls) ≡ 0

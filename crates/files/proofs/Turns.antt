@@ -2,6 +2,7 @@
 use Rattle.std.proofs.Common.{◌≡◌, ℕ, suc, ◌+◌, true, false, ◌||◌, List, [], ◌∷◌, ◌++◌, take, drop, Some, None, Ok, Err, Option, Result, sym, refl, ap, ◌∙◌, subst, ⊎_elim, append_assoc, append-nil, arith, ◌==◌}
 use Rattle.std.proofs.lemmas.Bool.{cases_Bool}
 use Rattle.std.proofs.lemmas.Bool.Decides.{nat_tests}
+use Rattle.std.specs.Option.{option_or}
 use Rattle.files.specs.declared.fault.LineFault.{LineFault}
 use Rattle.files.specs.declared.fault.Place.{Place}
 use Rattle.files.specs.declared.fault.SheetFault.{SheetFault}
@@ -27,16 +28,11 @@ same v b =
 
 before_drop : (ls : List (List ℕ)) → before (drop (before ls) ls) ≡ 0
 before_drop [] = refl
-before_drop (l ∷ ls) = ⊎_elim (λ h. rw h (rw h refl)) (λ h. rw h (before_drop ls)) (cases_Bool (is_head l))
+before_drop (l ∷ ls) = ⊎_elim (λ h. rw h (rw h refl)) (λ h. ap (λ k. before (drop k (l ∷ ls))) (before_line l ls h) ∙ before_drop ls) (cases_Bool (is_head l))
 
 -- where a load ends
 abbrev resume : Place → List (List ℕ) → Place
 resume p ls = record { sheet = p.sheet; line = p.line + before ls }
-
--- a fault, and else another
-abbrev or_else : Option SheetFault → Option SheetFault → Option SheetFault
-or_else (Some f) o = Some f
-or_else None o = o
 
 abbrev pub Answer : Type 0
 Answer = Result (Option Head) SheetFault
@@ -71,11 +67,11 @@ module _ (spell : Head → Spelling) (p : Place) (l : List ℕ) (ls : List (List
 -- The first fault of lines that go on with a sheet is that of its statements, or of what comes after them.
 module _ (spell : Head → Spelling) where
   abbrev Splits : Place → Sheet → List (List ℕ) → Type 0
-  Splits p t ls = lines_fault spell p (Some t) ls ≡ or_else (body_fault (spell t.head) t.head.size p t.rows (body ls)) (lines_fault spell (resume p ls) None (drop (before ls) ls))
+  Splits p t ls = lines_fault spell p (Some t) ls ≡ option_or (body_fault (spell t.head) t.head.size p t.rows (body ls)) (lines_fault spell (resume p ls) None (drop (before ls) ls))
 
   -- where the next head is known to stand k lines on
   abbrev Behind : Place → Sheet → List (List ℕ) → ℕ → Option SheetFault
-  Behind p t ls k = or_else (body_fault (spell t.head) t.head.size p t.rows (take k ls)) (lines_fault spell (record { sheet = p.sheet; line = p.line + k }) None (drop k ls))
+  Behind p t ls k = option_or (body_fault (spell t.head) t.head.size p t.rows (take k ls)) (lines_fault spell (record { sheet = p.sheet; line = p.line + k }) None (drop k ls))
 
   split_head : (p : Place) (t : Sheet) (l : List ℕ) (ls : List (List ℕ)) → is_head l ≡ true → Splits p t (l ∷ ls)
   split_head p t l ls y =
@@ -88,7 +84,7 @@ module _ (spell : Head → Spelling) where
   -- by what is wrong with the next line
   abbrev told : Place → Sheet → List ℕ → List (List ℕ) → Option LineFault → Option SheetFault
   told p t l ls o =
-      or_else (elim o [ Some f ↦ Some (record { place = onward p; fault = f }) | None ↦ body_fault (spell t.head) t.head.size (onward p) (t.rows ++ (row_in (spell t.head) l ∷ [])) (body ls) ])
+      option_or (elim o [ Some f ↦ Some (record { place = onward p; fault = f }) | None ↦ body_fault (spell t.head) t.head.size (onward p) (t.rows ++ (row_in (spell t.head) l ∷ [])) (body ls) ])
       (lines_fault spell (record { sheet = p.sheet; line = p.line + suc (before ls) }) None (drop (before ls) ls))
 
   split_line : (p : Place) (t : Sheet) (l : List ℕ) (ls : List (List ℕ)) → is_head l ≡ false → (o : Option LineFault) → line_fault (spell t.head) t.head.size t.rows l ≡ o
@@ -98,7 +94,7 @@ module _ (spell : Head → Spelling) where
   split_line p t l ls n None e i =
       let z : p.line + 1 + before ls ≡ p.line + suc (before ls) = omega arith in
       at_entered spell p l ls t n e ∙ i
-      ∙ ap (λ k. or_else (body_fault (spell t.head) t.head.size (onward p) (t.rows ++ (row_in (spell t.head) l ∷ [])) (body ls)) (lines_fault spell (record { sheet = p.sheet; line = k }) None (drop (before ls) ls))) z
+      ∙ ap (λ k. option_or (body_fault (spell t.head) t.head.size (onward p) (t.rows ++ (row_in (spell t.head) l ∷ [])) (body ls)) (lines_fault spell (record { sheet = p.sheet; line = k }) None (drop (before ls) ls))) z
       ∙ ap (told p t l ls) (sym e) ∙ ap (Behind p t (l ∷ ls)) (sym (before_line l ls n))
 
   splits : (p : Place) (t : Sheet) (ls : List (List ℕ)) → Splits p t ls
@@ -111,7 +107,7 @@ module _ (spell : Head → Spelling) where
 
   -- by what a load of them answers
   by_load : (q : Place) (ls : List (List ℕ)) (h : Head) (o : Option SheetFault)
-      → or_else o (lines_fault spell (resume q ls) None (drop (before ls) ls)) ≡ after_load spell (load_move (record { too_long = false; place = q; ahead = ls; waiting = Some h }) o) o
+      → option_or o (lines_fault spell (resume q ls) None (drop (before ls) ls)) ≡ after_load spell (load_move (record { too_long = false; place = q; ahead = ls; waiting = Some h }) o) o
   by_load q ls h (Some f) = refl
   by_load q ls h None = refl
 
@@ -199,8 +195,12 @@ module _ (spell : Head → Spelling) where
   listed_first t (l ∷ ls) =
       ⊎_elim
       (λ y. rw y (rw y (ap (λ r. record { head = t.head; rows = r } ∷ sheets_in spell (Some (begun (head_of l))) ls) (sym (append-nil t.rows)))))
-      (λ n. rw n (listed_first (extended (spell t.head) t l) ls
-      ∙ ap (λ r. record { head = t.head; rows = r } ∷ sheets_in spell None (drop (before ls) ls)) (append_assoc t.rows (row_in (spell t.head) l ∷ []) (rows_in (spell t.head) (body ls)))))
+      (λ n.
+      let any : sheets_in spell (Some t) (l ∷ ls) ≡ sheets_in spell (Some (extended (spell t.head) t l)) ls = rw n refl in
+      any
+      ∙ listed_first (extended (spell t.head) t l) ls
+      ∙ ap (λ r. record { head = t.head; rows = r } ∷ sheets_in spell None (drop (before ls) ls)) (append_assoc t.rows (row_in (spell t.head) l ∷ []) (rows_in (spell t.head) (body ls)))
+      ∙ ap (λ k. record { head = t.head; rows = t.rows ++ rows_in (spell t.head) (take k (l ∷ ls)) } ∷ sheets_in spell None (drop k (l ∷ ls))) (sym (before_line l ls n)))
       (cases_Bool (is_head l))
 
   sheet_head : (p : Place) (l : List ℕ) (ls : List (List ℕ)) (h : Head) → is_head l ≡ true → Takes spell (between p (l ∷ ls)) h → (r : Result Head LineFault) → head_in l ≡ r

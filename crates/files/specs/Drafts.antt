@@ -1,5 +1,6 @@
 -- A statement's line as a draft takes it: the line's own faults come first, then the draft's, each at the field that it is about.
-use Rattle.std.specs.Prelude.{◌≡◌, ℕ, cond, List, [], ◌∷◌, ◌++◌, Some, None, Ok, Err, Option, Result}
+use Rattle.std.specs.Prelude.{◌≡◌, ℕ, cond, List, [], ◌∷◌, ◌++◌, Ok, Err, Option, Result}
+use Rattle.std.specs.Option.{option_map}
 use Rattle.rules.specs.declared.row.Row.{Row}
 use Rattle.rules.specs.Properly.{between}
 use Rattle.statements.specs.declared.entry.Entry.{Entry}
@@ -10,7 +11,7 @@ use Rattle.statements.specs.Faults.{first_fault}
 use Rattle.files.specs.declared.fault.At.{At}
 use Rattle.files.specs.declared.fault.LineFault.{LineFault}
 use Rattle.files.specs.declared.fault.LineFault.TheVariants.{Draft}
-use Rattle.files.specs.Faults.{first}
+use Rattle.files.specs.Faults.{first, answered}
 use Rattle.files.specs.Statements.{statement_fault, entry_of}
 use Rattle.files.specs.Words.{Spelling}
 
@@ -27,13 +28,11 @@ refusal_field items e _ = 0
 
 -- a draft's refusal with its field
 abbrev pub refused_at : (Fault → ℕ) → Option Fault → Result (Unit {0}) (At ℕ Fault)
-refused_at field (Some f) = Err (record { place = field f; fault = f })
-refused_at field None = Ok tt
+refused_at field o = answered (option_map (λ f. record { place = field f; fault = f }) o) tt
 
 -- and as the fault of a line
 abbrev pub refused_line : (Fault → ℕ) → Option Fault → Option LineFault
-refused_line field (Some f) = Some (Draft (field f) f)
-refused_line field None = None
+refused_line field o = option_map (λ f. Draft (field f) f) o
 
 -- what a draft refuses an entry by
 abbrev pub entry_refusal : Spelling → ℕ → List Row → Entry → Option Fault

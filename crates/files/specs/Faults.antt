@@ -1,5 +1,6 @@
 -- Faults: which of several comes first, the number of each, and the field that it is at.
 use Rattle.std.specs.Prelude.{ℕ, Bool, cond, List, [], ◌∷◌, Some, None, Ok, Err, Option, Result}
+use Rattle.std.specs.Option.{option_or}
 use Rattle.statements.specs.Faults.{number}
 use Rattle.files.specs.declared.fault.At.{At}
 use Rattle.files.specs.declared.fault.FieldFault.TheVariants.{NotNumber, NotWord, NotMark, Unknown}
@@ -28,8 +29,7 @@ fault_field (Draft k f) = k
 -- the first of the faults that are there
 abbrev pub first : {F : Type 0} → List (Option F) → Option F
 first [] = None
-first (Some f ∷ fs) = Some f
-first (None ∷ fs) = first fs
+first (f ∷ fs) = option_or f (first fs)
 
 -- a fault, unless what should hold does
 abbrev pub unless : {F : Type 0} → Bool → F → Option F

@@ -1,5 +1,6 @@
 -- What a whole file stands for, and which of its faults is the first, where each sheet is loaded in turn.
 use Rattle.std.specs.Prelude.{◌≡◌, ℕ, zero, suc, ◌+◌, ◌-◌, true, false, cond, ◌||◌, List, [], ◌∷◌, ◌++◌, length, take, Some, None, Ok, Err, Option, Result, ◌==◌}
+use Rattle.std.specs.Option.{option_map, option_or, option_to_list}
 use Rattle.rules.specs.declared.row.Row.{Row}
 use Rattle.files.specs.declared.fault.LineFault.TheVariants.{TooLong}
 use Rattle.files.specs.declared.fault.Place.{Place}
@@ -51,20 +52,14 @@ file_fault spell file = cond (too_long file) (Some (nowhere TooLong)) (lines_fau
 abbrev pub WellFormed : (Head → Spelling) → List ℕ → Type 0
 WellFormed spell file = file_fault spell file ≡ None
 
--- the sheet that has begun, as a list
-abbrev pub listed : Option Sheet → List Sheet
-listed None = []
-listed (Some t) = t ∷ []
-
--- the same sheet with a statement more
+-- the sheet that has begun, if one has, with a statement more
 abbrev pub goes_on : (Head → Spelling) → Option Sheet → List ℕ → Option Sheet
-goes_on spell None line = None
-goes_on spell (Some t) line = Some (extended (spell t.head) t line)
+goes_on spell t line = option_map (λ s. extended (spell s.head) s line) t
 
 -- the sheets that some lines stand for, t being the one that they go on with
 abbrev pub sheets_in : (Head → Spelling) → Option Sheet → List (List ℕ) → List Sheet
-sheets_in spell t [] = listed t
-sheets_in spell t (l ∷ ls) = cond (is_head l) (listed t ++ sheets_in spell (Some (begun (head_of l))) ls) (sheets_in spell (goes_on spell t l) ls)
+sheets_in spell t [] = option_to_list t
+sheets_in spell t (l ∷ ls) = cond (is_head l) (option_to_list t ++ sheets_in spell (Some (begun (head_of l))) ls) (sheets_in spell (goes_on spell t l) ls)
 
 -- the sheets that a well-formed file stands for
 abbrev pub sheets_of : (Head → Spelling) → List ℕ → List Sheet
@@ -85,8 +80,7 @@ rest_sheets spell v = sheets_in spell None v.ahead
 
 -- the first refusal of a reader that goes on from v once a load has been answered
 abbrev pub after_load : (Head → Spelling) → View → Option SheetFault → Option SheetFault
-after_load spell v (Some f) = Some f
-after_load spell v None = rest_fault spell v
+after_load spell v o = option_or o (rest_fault spell v)
 
 -- and of one that loads the head that it was answered, v being where it stands then
 abbrev pub after_head : (Head → Spelling) → View → Result (Option Head) SheetFault → Option SheetFault

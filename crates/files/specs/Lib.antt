@@ -3,6 +3,7 @@ pub mod Parts
 pub mod Numbers
 pub mod Words
 pub mod Faults
+pub mod Letters
 pub mod Heads
 pub mod Statements
 pub mod Drafts

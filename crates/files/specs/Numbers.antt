@@ -1,16 +1,10 @@
 -- What a number is in a file.
-use Rattle.std.specs.Prelude.{ℕ, ◌+◌, ◌-◌, ◌*◌, Bool, true, not, ◌&&◌, ◌||◌, List, [], ◌∷◌, length, fold, Result, ◌==◌, nat_le, slice_index}
+use Rattle.std.specs.Prelude.{ℕ, ◌+◌, ◌-◌, ◌*◌, Bool, not, ◌&&◌, ◌||◌, List, length, fold, Result, ◌==◌, nat_le, slice_index}
+use Rattle.std.specs.Char.{is_ascii_digit}
+use Rattle.std.specs.List.{list_all}
 use Rattle.files.specs.declared.fault.FieldFault.{FieldFault}
 use Rattle.files.specs.declared.fault.FieldFault.TheVariants.{NotNumber}
 use Rattle.files.specs.Faults.{given}
-
--- 0 to 9
-abbrev pub is_digit : ℕ → Bool
-is_digit b = nat_le 48 b && nat_le b 57
-
-abbrev pub all_digits : List ℕ → Bool
-all_digits [] = true
-all_digits (b ∷ bs) = is_digit b && all_digits bs
 
 -- the number that digits write
 abbrev pub value_of : List ℕ → ℕ
@@ -19,7 +13,7 @@ value_of bs = fold (λ n b. n * 10 + (b - 48)) 0 bs
 -- a field is a number: one to six digits of which the first is not 0, or 0 alone
 unfoldable pub is_number : List ℕ → Bool
 is_number bs =
-    nat_le 1 (length bs) && nat_le (length bs) 6 && all_digits bs && (not (slice_index bs 0 == 48) || length bs == 1)
+    nat_le 1 (length bs) && nat_le (length bs) 6 && list_all is_ascii_digit bs && (not (slice_index bs 0 == 48) || length bs == 1)
 
 abbrev pub number_in : List ℕ → Result ℕ FieldFault
 number_in field = given (is_number field) (value_of field) NotNumber

@@ -1,7 +1,7 @@
 -- How a text is parted into lines, fields and words, and what the cursors over them give.
 use Rattle.std.specs.Prelude.{◌≡◌, ℕ, cond, List, [], ◌∷◌, ◌++◌, Some, None, Option, ◌==◌, ◌≢◌}
 use Rattle.std.specs.Borrow.{Bor}
-use Rattle.std.specs.List.{slice_split, onto_first}
+use Rattle.std.specs.List.{slice_split, onto_first, AllByRecursion}
 use Rattle.files.specs.declared.parts.Parts.{Parts}
 use Rattle.files.specs.declared.parts.Lines.{Lines}
 
@@ -20,8 +20,7 @@ fields line = parted 32 line
 
 -- the byte c stands nowhere in a text
 abbrev pub Lacks : ℕ → List ℕ → Type 0
-Lacks c [] = Unit {0}
-Lacks c (b ∷ bs) = (b ≢ c) × Lacks c bs
+Lacks c bs = AllByRecursion (λ b. b ≢ c) bs
 
 -- a text at its first c: what stands before it, and what after it; or that there is none
 abbrev pub Split : ℕ → List ℕ → List ℕ → Option (Bor (List ℕ)) → Type 0
@@ -32,12 +31,7 @@ Split c text front None = Lacks c text × (text ≡ front)
 abbrev pub left : Parts → List (List ℕ)
 left p = elim p.rest [ Some r ↦ parted p.by r.now | None ↦ [] ]
 
--- a cursor gives the first of the parts that were left, or there was none
-abbrev pub Gives : Parts → Option (Bor (List ℕ)) → Parts → Type 0
-Gives old (Some p) new = left old ≡ p.now ∷ left new
-Gives old None new = (left old ≡ []) × (left new ≡ [])
-
--- the same of lines
+-- a cursor gives the first of the lines that were left, or there was none
 abbrev pub GivesLine : Lines → Option (Bor (List ℕ)) → Lines → Type 0
 GivesLine old (Some l) new = lines old.rest.now ≡ l.now ∷ lines new.rest.now
 GivesLine old None new = (lines old.rest.now ≡ []) × (new ≡ old)

@@ -1,6 +1,7 @@
 -- Where heads stand among the lines of a file, and what is answered to whoever asks for the next.
-use Rattle.std.specs.Prelude.{◌≡◌, ℕ, suc, ◌+◌, ◌-◌, false, cond, ◌&&◌, List, [], ◌∷◌, length, drop, Some, None, Ok, Err, Option, Result, ◌==◌, nat_le, slice_index_or}
+use Rattle.std.specs.Prelude.{◌≡◌, ℕ, ◌+◌, ◌-◌, false, cond, ◌&&◌, List, [], ◌∷◌, length, drop, Some, None, Ok, Err, Option, Result, ◌==◌, nat_le, slice_index_or}
 use Rattle.std.specs.Borrow.{Bor}
+use Rattle.std.specs.List.{position_or_len}
 use Rattle.files.specs.declared.fault.LineFault.{LineFault}
 use Rattle.files.specs.declared.fault.LineFault.TheVariants.{TooLong, NoHead}
 use Rattle.files.specs.declared.fault.Place.{Place}
@@ -23,8 +24,7 @@ state_of p = cond (p.sheet == 0) NoSheet InSheet
 
 -- how many lines stand before the next head
 abbrev pub before : List (List ℕ) → ℕ
-before [] = 0
-before (l ∷ ls) = cond (is_head l) 0 (suc (before ls))
+before ls = position_or_len is_head ls
 
 -- the place of the next line
 abbrev pub onward : Place → Place

@@ -1,12 +1,11 @@
 -- A reader's place is counted through its file.
-use Rattle.std.specs.Prelude.{◌≡◌, ℕ, suc, cond, List, [], ◌∷◌, take, drop}
+use Rattle.std.specs.Prelude.{◌≡◌, ℕ, List, take, drop, count_by}
 use Rattle.files.specs.Heads.{is_head}
 use Rattle.files.specs.Views.{View, lines_of}
 
 -- how many of some lines are heads
 abbrev pub heads : List (List ℕ) → ℕ
-heads [] = 0
-heads (l ∷ ls) = cond (is_head l) (suc (heads ls)) (heads ls)
+heads ls = count_by is_head ls
 
 -- The line of the place says how many lines of the file are read; the others are to come; and the sheet is the number of heads among
 -- those read.

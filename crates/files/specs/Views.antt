@@ -1,5 +1,5 @@
 -- What a reader answers to each call, where it stands then, and what the draft has.
-use Rattle.std.specs.Prelude.{ℕ, ◌+◌, Bool, cond, ◌&&◌, List, [], length, drop, Some, None, Ok, Err, Option, Result, ◌==◌, nat_lt}
+use Rattle.std.specs.Prelude.{ℕ, ◌+◌, Bool, true, false, cond, ◌&&◌, List, [], length, drop, Some, None, Ok, Err, Option, Result, ◌==◌, nat_lt}
 use Rattle.rules.specs.declared.row.Row.{Row}
 use Rattle.files.specs.declared.fault.FieldFault.TheVariants.{Unknown}
 use Rattle.files.specs.declared.fault.LineFault.TheVariants.{TooLong, NoHead, Field}
@@ -24,8 +24,12 @@ pub record View : Type 0 where
 abbrev pub ahead_of : Spot → List (List ℕ)
 ahead_of s = lines s.ahead.rest.now
 
+-- of a file that is too long there is neither
 abbrev pub view_of : Reader → View
-view_of r = record { too_long = r.too_long; place = r.spot.place; ahead = ahead_of r.spot; waiting = r.waiting }
+view_of r = elim r.spot [
+  | Some s ↦ record { too_long = false; place = s.place; ahead = ahead_of s; waiting = r.waiting }
+  | None ↦ record { too_long = true; place = record { sheet = 0; line = 0 }; ahead = []; waiting = r.waiting }
+]
 
 -- a file has at most 65,536 bytes
 abbrev pub too_long : List ℕ → Bool

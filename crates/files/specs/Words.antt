@@ -1,6 +1,6 @@
 -- The words of a field, and the set that they name.
-use Rattle.std.specs.Prelude.{◌≡◌, ℕ, ◌^◌, Bool, true, cond, ◌&&◌, List, [], ◌∷◌, length, is_some, Some, None, Option, Result, ◌==◌, bit_or, nat_lt}
-use Rattle.std.specs.List.{Any}
+use Rattle.std.specs.Prelude.{◌≡◌, ℕ, ◌^◌, Bool, cond, List, [], ◌∷◌, length, is_some, Some, None, Option, Result, ◌==◌, bit_or, nat_lt}
+use Rattle.std.specs.List.{Any, fold, list_all}
 use Rattle.kinds.specs.Meaning.{Meaning}
 use Rattle.kinds.specs.Words.{read}
 use Rattle.files.specs.declared.fault.FieldFault.{FieldFault}
@@ -37,13 +37,11 @@ words (b ∷ bs) = parted 47 (b ∷ bs)
 
 -- each is a word of the kind
 abbrev pub all_words : (List ℕ → Option ℕ) → List (List ℕ) → Bool
-all_words code [] = true
-all_words code (w ∷ ws) = is_some (code w) && all_words code ws
+all_words code ws = list_all (λ w. is_some (code w)) ws
 
 -- a set with the codes of some words, a bit for each, beside those that it has
 abbrev pub with_words : (List ℕ → Option ℕ) → ℕ → List (List ℕ) → ℕ
-with_words code set [] = set
-with_words code set (w ∷ ws) = with_words code (elim (code w) [ Some c ↦ bit_or set (2 ^ c) | None ↦ set ]) ws
+with_words code set ws = fold (λ s w. elim (code w) [ Some c ↦ bit_or s (2 ^ c) | None ↦ s ]) set ws
 
 unfoldable pub are_words : (List ℕ → Option ℕ) → List ℕ → Bool
 are_words code field = all_words code (words field)

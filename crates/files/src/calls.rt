@@ -1,12 +1,11 @@
 // The calls of a reader.
-ghost use Rattle.std.specs.Prelude.{◌≡◌, ℕ, ◌≤◌, List, true, [], length};
+ghost use Rattle.std.specs.Prelude.{◌≡◌, ℕ, List, true, []};
 ghost use Rattle.rules.specs.Properly.{between};
 ghost use Rattle.files.specs.Faults.{answered};
 ghost use Rattle.files.specs.Files.{ReadsFile};
-ghost use Rattle.files.specs.Parts.{lines};
 ghost use Rattle.files.specs.Sheets.{nowhere as nowhere_with};
 ghost use Rattle.files.specs.Standing.{Stands};
-ghost use Rattle.files.specs.Views.{view_of, start_of, lines_of, head_answer, head_after, load_fault, load_after, contents, load_contents};
+ghost use Rattle.files.specs.Views.{view_of, start_of, head_answer, head_after, load_fault, load_after, contents, load_contents};
 ghost use Rattle.files.specs.Words.{spelled};
 
 use crate::fault::{FieldFault, LineFault, Place, SheetFault};
@@ -27,16 +26,10 @@ pub const LARGEST: usize = 65536;
 fn nowhere(fault: LineFault) -> SheetFault
     ensures { result ≡ nowhere_with fault }
 {
-    let place = Place { sheet: 0, line: 0 };
-    SheetFault { place, fault }
-}
-
-// What is read of a file: nothing of one that is too long.
-fn readable(file: &[u8]) -> &[u8]
-    ensures short { length result.now ≤ 65536 }
-    ensures all { lines result.now ≡ lines_of file.now }
-{
-    if file.len() > LARGEST { &[] } else { file }
+    SheetFault {
+        place: Place::default(),
+        fault,
+    }
 }
 
 impl<'a> Reader<'a> {
@@ -46,12 +39,16 @@ impl<'a> Reader<'a> {
         ensures stands { Stands file.now (view_of result) }
         ensures reads { ReadsFile file.now (view_of result) }
     {
+        let spot = if file.len() > LARGEST {
+            None
+        } else {
+            Some(Spot {
+                ahead: Lines::new(file),
+                place: Place::default(),
+            })
+        };
         Reader {
-            too_long: file.len() > LARGEST,
-            spot: Spot {
-                ahead: Lines::new(readable(file)),
-                place: Place { sheet: 0, line: 0 },
-            },
+            spot,
             waiting: None,
         }
     }
@@ -62,14 +59,10 @@ impl<'a> Reader<'a> {
         ensures after { view_of self.new ≡ head_after (view_of self.old) }
         ensures stands { (file : List ℕ) → Stands file (view_of self.old) → Stands file (view_of self.new) }
     {
-        if self.too_long {
-            return Err(nowhere(LineFault::TooLong));
-        }
-        let mut spot = self.spot;
-        let head = spot.find_head()?;
-        self.spot = spot;
-        self.waiting = head;
-        Ok(head)
+        let mut spot = self.spot.ok_or(nowhere(LineFault::TooLong))?;
+        self.waiting = spot.find_head()?;
+        self.spot = Some(spot);
+        Ok(self.waiting)
     }
 
     /// Loads the statements of the head that waits into a draft, which takes the head's size first. A refused load leaves the head
@@ -83,28 +76,19 @@ impl<'a> Reader<'a> {
         ensures stands { (file : List ℕ) → Stands file (view_of self.old) → Stands file (view_of self.new) }
         ensures draft { contents draft.new.items draft.new.rows.items ≡ load_contents (spelled K.Kind.meaning K.Notation.words K.Notation.initial T.TallyLetter.initial) (view_of self.old) (contents draft.old.items draft.old.rows.items) }
     {
-        if self.too_long {
-            return Err(nowhere(LineFault::TooLong));
-        }
-        let Some(head) = self.waiting else {
-            return Err(nowhere(LineFault::NoHead));
-        };
-        if head.letter != K::letter() || head.tally != T::letter() {
+        let mut spot = self.spot.ok_or(nowhere(LineFault::TooLong))?;
+        let head = self.waiting.ok_or(nowhere(LineFault::NoHead))?;
+        if u8::from(head.kind) != K::letter() || u8::from(head.tally) != T::letter() {
             return Err(nowhere(LineFault::Field(0, FieldFault::Unknown)));
         }
         resize(draft, head.size);
-        let mut spot = self.spot;
-        match load_body(&mut spot, draft) {
-            Ok(()) => {
-                self.spot = spot;
-                self.waiting = None;
-                Ok(())
-            }
-            Err(fault) => {
-                clear(draft);
-                Err(fault)
-            }
+        if let Err(fault) = load_body(&mut spot, draft) {
+            clear(draft);
+            return Err(fault);
         }
+        self.spot = Some(spot);
+        self.waiting = None;
+        Ok(())
     }
 }
 
@@ -114,10 +98,7 @@ fn resize<K: Kind, T: Tally>(draft: &mut Draft<K, T>, size: u32)
     ensures size { draft.new.items ≡ size }
     ensures rows { draft.new.rows.items ≡ [] }
 {
-    match draft.size(size) {
-        Ok(()) => {}
-        Err(_) => unreachable(),
-    }
+    draft.size(size).unwrap();
 }
 
 // Empties the list of a draft, which keeps its size.

@@ -62,7 +62,7 @@ impl LineFault {
 
 /// Where a line stands: in which sheet, 0 before the first head; and its number, counted through the file from 1. Both are 0 for what
 /// is at no line.
-#[derive(Clone, Copy, PartialEq, Eq)]
+#[derive(Clone, Copy, Default, PartialEq, Eq)]
 pub struct Place {
     pub sheet: u32,
     pub line: u32,
@@ -102,10 +102,7 @@ pub struct At<P, E> {
 pub fn placed<P: Drop, T, E>(place: P, answer: Result<T, E>) -> Result<T, At<P, E>>
     ensures { result ≡ placed_at place answer }
 {
-    match answer {
-        Ok(value) => Ok(value),
-        Err(fault) => Err(At { place, fault }),
-    }
+    answer.map_err(|fault| At { place, fault })
 }
 
 impl From<At<u8, FieldFault>> for LineFault {

@@ -1,47 +1,101 @@
 // The head of a sheet.
-ghost use Rattle.std.specs.Prelude.{◌≡◌, true, IfOk};
+ghost use Rattle.std.specs.Prelude.{◌≡◌};
 ghost use Rattle.rules.specs.Properly.{between};
 ghost use Rattle.statements.specs.declared.fault.Fault.TheVariants.{Size};
 ghost use Rattle.files.specs.declared.fault.FieldFault.TheVariants.{Unknown as Unfit};
 ghost use Rattle.files.specs.Faults.{given};
 ghost use Rattle.files.specs.Heads.{head_in, letter, is_kind, is_tally};
+ghost use Rattle.files.specs.Letters.{kind_letter, kind_of, tally_letter, tally_of};
 
 use crate::fault::{At, FieldFault, LineFault, placed};
 use crate::number::number;
 use crate::parts::Parts;
 use statements::fault::Fault;
+use std::marker::Model;
 
-/// What a head says: the letter of the kind, the number of items, the letter of the tally.
+/// The kind that a head names.
+#[derive(Clone, Copy, PartialEq, Eq)]
+pub enum HeadKind {
+    Moments,
+    Spells,
+    Dwellings,
+}
+
+/// The tally that a head names.
+#[derive(Clone, Copy, PartialEq, Eq)]
+pub enum HeadTally {
+    ByWeight,
+    SwornFirst,
+}
+
+/// What a head says: the kind, the number of items, 1 to 12, and the tally. Contracts see the kind and the tally by their letters.
 #[derive(Clone, Copy, PartialEq, Eq)]
 pub struct Head {
-    pub letter: u8,
+    pub kind: HeadKind,
     pub size: u32,
-    pub tally: u8,
+    pub tally: HeadTally,
+}
+
+impl Model for Head {
+    ghost use Rattle.std.specs.Prelude.{◌≡◌, true};
+    ghost use Rattle.rules.specs.Properly.{between};
+    ghost use Rattle.files.specs.Letters.{Said, kind_letter, kind_of, tally_letter, tally_of};
+
+    ghost Value = { Said };
+
+    ghost view = { λ h. record { letter = kind_letter h.kind; size = h.size; tally = tally_letter h.tally } };
+
+    ghost invariant = { λ h. between 1 12 h.size ≡ true };
+
+    ghost inverse = { λ s. record { kind = kind_of s.letter; size = s.size; tally = tally_of s.tally } };
 }
 
 /// The most bytes of a line.
 pub const LONGEST: usize = 80;
 
-// The letter of a kind.
-fn kind_letter(field: &[u8]) -> Result<u8, FieldFault>
-    ensures { result ≡ given (is_kind (letter field.now)) (letter field.now) Unfit }
+// The kind of a letter.
+fn kind_named(field: &[u8]) -> Result<HeadKind, FieldFault>
+    ensures { result ≡ given (is_kind (letter field.now)) (kind_of (letter field.now)) Unfit }
 {
     match field {
-        [b'M'] => Ok(b'M'),
-        [b'S'] => Ok(b'S'),
-        [b'D'] => Ok(b'D'),
+        [b'M'] => Ok(HeadKind::Moments),
+        [b'S'] => Ok(HeadKind::Spells),
+        [b'D'] => Ok(HeadKind::Dwellings),
         _ => Err(FieldFault::Unknown),
     }
 }
 
-// The letter of a tally.
-fn tally_letter(field: &[u8]) -> Result<u8, FieldFault>
-    ensures { result ≡ given (is_tally (letter field.now)) (letter field.now) Unfit }
+// The tally of a letter.
+fn tally_named(field: &[u8]) -> Result<HeadTally, FieldFault>
+    ensures { result ≡ given (is_tally (letter field.now)) (tally_of (letter field.now)) Unfit }
 {
     match field {
-        [b'w'] => Ok(b'w'),
-        [b'r'] => Ok(b'r'),
+        [b'w'] => Ok(HeadTally::ByWeight),
+        [b'r'] => Ok(HeadTally::SwornFirst),
         _ => Err(FieldFault::Unknown),
+    }
+}
+
+impl From<HeadKind> for u8 {
+    ghost from_gives = { λ kind r. r ≡ kind_letter kind };
+
+    fn from(kind: HeadKind) -> u8 {
+        match kind {
+            HeadKind::Moments => b'M',
+            HeadKind::Spells => b'S',
+            HeadKind::Dwellings => b'D',
+        }
+    }
+}
+
+impl From<HeadTally> for u8 {
+    ghost from_gives = { λ tally r. r ≡ tally_letter tally };
+
+    fn from(tally: HeadTally) -> u8 {
+        match tally {
+            HeadTally::ByWeight => b'w',
+            HeadTally::SwornFirst => b'r',
+        }
     }
 }
 
@@ -49,7 +103,7 @@ fn tally_letter(field: &[u8]) -> Result<u8, FieldFault>
 fn checked_size(size: u32) -> Result<u32, Fault>
     ensures { result ≡ given (between 1 12 size) size Size }
 {
-    if size < 1 || size > 12 {
+    if !(1..=12).contains(&size) {
         return Err(Fault::Size);
     }
     Ok(size)
@@ -57,8 +111,7 @@ fn checked_size(size: u32) -> Result<u32, Fault>
 
 /// Reads a head, or tells its first fault.
 pub fn parse_head(line: &[u8]) -> Result<Head, LineFault>
-    ensures head { result ≡ head_in line.now }
-    ensures sized { IfOk result (λ h. between 1 12 h.size ≡ true) }
+    ensures { result ≡ head_in line.now }
 {
     if line.len() > LONGEST {
         return Err(LineFault::TooLong);
@@ -72,13 +125,9 @@ pub fn parse_head(line: &[u8]) -> Result<Head, LineFault>
     ) else {
         return Err(LineFault::FieldCount);
     };
-    let letter = placed(1, kind_letter(kind))?;
+    let kind = placed(1, kind_named(kind))?;
     let size = placed(2, number(size))?;
-    let tally = placed(3, tally_letter(tally))?;
+    let tally = placed(3, tally_named(tally))?;
     let size = placed(2, checked_size(size))?;
-    Ok(Head {
-        letter,
-        size,
-        tally,
-    })
+    Ok(Head { kind, size, tally })
 }

@@ -8,7 +8,7 @@ ghost use Rattle.files.specs.Words.{spelled};
 ghost use Rattle.rules.specs.Properly.{between};
 ghost use Rattle.statements.specs.Drafts.{row_of};
 
-use crate::fault::{At, LineFault, SheetFault};
+use crate::fault::{At, LineFault, Place, SheetFault, placed};
 use crate::letter::TallyLetter;
 use crate::reader::Spot;
 use crate::statement::parse_entry;
@@ -24,7 +24,7 @@ fn field_of(fault: Fault, entry: &Entry, items: u8) -> u8
     ensures { result ≡ refusal_field items entry.now fault }
 {
     match fault {
-        Fault::Item if 1 <= entry.first && entry.first <= items as u32 => 2,
+        Fault::Item if (1..=u32::from(items)).contains(&entry.first) => 2,
         Fault::Item => 1,
         Fault::Size | Fault::Same => 2,
         Fault::Code => 3,
@@ -42,13 +42,12 @@ fn enter_at<K: Kind + Notation, T: Tally + TallyLetter>(
     ensures answer { result ≡ refused_at (refusal_field draft.old.items entry) (entry_refusal (spelled K.Kind.meaning K.Notation.words K.Notation.initial T.TallyLetter.initial) draft.old.items draft.old.rows.items entry) }
     ensures entered { Entered result (row_of K.Kind.meaning.converse K.Kind.meaning.codes entry) draft.old.items draft.old.rows.items draft.new.items draft.new.rows.items }
 {
-    match draft.enter(entry) {
-        Ok(_) => Ok(()),
-        Err(fault) => Err(At {
-            place: field_of(fault, &entry, draft.items()),
-            fault,
-        }),
-    }
+    let items = draft.items();
+    draft.enter(entry).map_err(|fault| At {
+        place: field_of(fault, &entry, items),
+        fault,
+    })?;
+    Ok(())
 }
 
 // Enters a statement's line.
@@ -74,15 +73,7 @@ pub fn load_body<K: Kind + Notation, T: Tally + TallyLetter>(
     ensures loaded { Loaded result (rows_in (spelled K.Kind.meaning K.Notation.words K.Notation.initial T.TallyLetter.initial) (body (ahead_of spot.old))) spot.old.place (ahead_of spot.old) draft.old.rows.items spot.new.place (ahead_of spot.new) draft.new.rows.items }
 {
     while let Some(line) = spot.next_statement() {
-        match enter_line(draft, line) {
-            Ok(()) => {}
-            Err(fault) => {
-                return Err(SheetFault {
-                    place: spot.place,
-                    fault,
-                });
-            }
-        }
+        placed(spot.place, enter_line(draft, line))?;
     }
     Ok(())
 }

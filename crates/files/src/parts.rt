@@ -1,7 +1,8 @@
 // Parts of a text between single bytes.
 ghost use Rattle.std.specs.Prelude.{◌≡◌, ℕ, ◌+◌, ◌<◌, ◌≤◌, length, ◌≢◌, ◌==◌, slice_index, count_by, All};
+ghost use Rattle.std.specs.Iterator.{YieldsFirstRef, item_count};
 ghost use Rattle.std.specs.List.{join_with_byte};
-ghost use Rattle.files.specs.Parts.{parted, lines, left, Lacks, Split, Gives, GivesLine};
+ghost use Rattle.files.specs.Parts.{parted, lines, left, Lacks, Split, GivesLine};
 
 /// Gives the parts of a text between the bytes `by`, one after another.
 #[derive(Drop)]
@@ -22,12 +23,7 @@ pub fn first_place(text: &[u8], b: u8) -> usize
     ensures before { (k : ℕ) → k < result → slice_index text.now k ≢ b }
     ensures found { result < length text.now → slice_index text.now result ≡ b }
 {
-    for (i, x) in text.iter().enumerate() {
-        if *x == b {
-            return i;
-        }
-    }
-    text.len()
+    text.iter().position(|x| *x == b).unwrap_or(text.len())
 }
 
 /// What stands before the first byte `by`, and what after it; the whole text where there is none.
@@ -36,7 +32,7 @@ pub fn split_once<'a>(text: &'a [u8], by: u8) -> (&'a [u8], Option<&'a [u8]>)
 {
     let n = first_place(text, by);
     if n < text.len() {
-        (&text[0..n], Some(&text[n + 1..]))
+        (&text[..n], Some(&text[n + 1..]))
     } else {
         (text, None)
     }
@@ -55,14 +51,18 @@ impl<'a> Parts<'a> {
             rest: Some(text),
         }
     }
+}
+
+impl<'a> Iterator for Parts<'a> {
+    type Item = &'a [u8];
+
+    ghost next_gives = { YieldsFirstRef left };
+
+    ghost remaining = { item_count left };
 
     /// The next part, or that there is none.
-    pub fn next(&mut self) -> Option<&'a [u8]>
-        ensures { Gives self.old result self.new }
-    {
-        let Some(text) = self.rest else {
-            return None;
-        };
+    fn next(&mut self) -> Option<&'a [u8]> {
+        let text = self.rest?;
         let (part, rest) = split_once(text, self.by);
         self.rest = rest;
         Some(part)
@@ -76,23 +76,22 @@ impl<'a> Lines<'a> {
     {
         Lines { rest }
     }
+}
+
+impl<'a> Iterator for Lines<'a> {
+    type Item = &'a [u8];
+
+    ghost next_gives = { GivesLine };
+
+    ghost remaining = { item_count (λ ls. lines ls.rest.now) };
 
     /// The next line, without its line feed, or that there is none.
-    pub fn next(&mut self) -> Option<&'a [u8]>
-        ensures { GivesLine self.old result self.new }
-    {
+    fn next(&mut self) -> Option<&'a [u8]> {
         if self.rest.is_empty() {
             return None;
         }
-        match split_once(self.rest, b'\n') {
-            (line, Some(rest)) => {
-                self.rest = rest;
-                Some(line)
-            }
-            (line, None) => {
-                self.rest = &[];
-                Some(line)
-            }
-        }
+        let (line, rest) = split_once(self.rest, b'\n');
+        self.rest = rest.unwrap_or(&[]);
+        Some(line)
     }
 }

@@ -1,7 +1,5 @@
 // A reader of a file's sheets: what it holds.
-ghost use Rattle.std.specs.Prelude.{◌≡◌, ◌+◌, ◌≤◌, true, length, IfSome};
-ghost use Rattle.std.proofs.Props.{props};
-ghost use Rattle.rules.specs.Properly.{between};
+ghost use Rattle.std.specs.Prelude.{◌+◌, ◌≤◌, length};
 ghost use Rattle.files.specs.Parts.{lines};
 
 use crate::fault::Place;
@@ -20,8 +18,7 @@ pub struct Spot<'a> {
 /// loaded or the next head is asked for. No refusal moves the reader: asked again, it gives the same fault.
 #[derive(Drop)]
 pub struct Reader<'a> {
-    pub(crate) too_long: bool,
-    pub(crate) spot: Spot<'a>,
+    // None for a file that is too long.
+    pub(crate) spot: Option<Spot<'a>>,
     pub(crate) waiting: Option<Head>,
-    ghost sized: { IfSome waiting (λ h. between 1 12 h.size ≡ true) } by { Prim.hlevel props },
 }

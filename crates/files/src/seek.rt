@@ -1,6 +1,5 @@
 // How a reader goes on in its file: to the next statement, or to the next head.
-ghost use Rattle.std.specs.Prelude.{◌≡◌, true, IfSome, IfOk};
-ghost use Rattle.rules.specs.Properly.{between};
+ghost use Rattle.std.specs.Prelude.{◌≡◌};
 ghost use Rattle.files.specs.Sheets.{next_head, Moved, stray_fault, GivesStatement, state_of};
 ghost use Rattle.files.specs.Views.{ahead_of};
 
@@ -37,9 +36,7 @@ impl<'a> Spot<'a> {
         ensures { GivesStatement self.old.place (ahead_of self.old) result self.new.place (ahead_of self.new) }
     {
         let mut ahead = self.ahead;
-        let Some(line) = ahead.next() else {
-            return None;
-        };
+        let line = ahead.next()?;
         match class_of(line) {
             Class::HeadLine => None,
             Class::StatementLine => {
@@ -53,7 +50,6 @@ impl<'a> Spot<'a> {
     /// Passes over statements, once a head has come, to the next head. Refused, it stands past the line that the fault is at.
     pub fn find_head(&mut self) -> Result<Option<Head>, SheetFault>
         ensures answer { result ≡ next_head self.old.place (ahead_of self.old) }
-        ensures sized { IfOk result (λ o. IfSome o (λ h. between 1 12 h.size ≡ true)) }
         ensures moved { Moved self.old.place (ahead_of self.old) result self.new.place (ahead_of self.new) }
     {
         while let Some(line) = self.ahead.next() {

@@ -16,10 +16,7 @@ fn code_of<K: Kind + Notation>(word: &[u8]) -> Option<u8>
     if word.is_empty() {
         return None;
     }
-    match K::code(word) {
-        Some(code) if code < K::count() => Some(code),
-        _ => None,
-    }
+    K::code(word).filter(|code| *code < K::count())
 }
 
 /// Reads a field of words parted by `/`: the set of their codes, as bits. An empty field is the empty set.
@@ -32,12 +29,9 @@ pub fn set_of<K: Kind + Notation>(field: &[u8]) -> Result<u64, FieldFault>
     if field.is_empty() {
         return Ok(set);
     }
-    let mut words = Parts::new(field, b'/');
-    while let Some(word) = words.next() {
-        match code_of::<K>(word) {
-            Some(code) => set |= 1 << code,
-            None => return Err(FieldFault::NotWord),
-        }
+    for word in Parts::new(field, b'/') {
+        let code = code_of::<K>(word).ok_or(FieldFault::NotWord)?;
+        set |= 1 << code;
     }
     Ok(set)
 }

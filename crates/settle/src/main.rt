@@ -5,7 +5,7 @@ use anyhow::anyhow;
 use dwellings::Dwellings;
 use files::calls::LARGEST;
 use files::fault::SheetFault;
-use files::head::Head;
+use files::head::{Head, HeadKind, HeadTally};
 use files::reader::Reader;
 use moments::Moments;
 use reports::account::account;
@@ -24,16 +24,8 @@ const LONGEST_REPORT: usize = 4096;
 
 /// All of standard input, or as much as shows that it is longer than a file may be.
 fn read_file(rt: HostRuntime) -> io::Result<Vec<u8>> {
-    let mut input = rt.stdin();
     let mut file = Vec::new(rt.alloc());
-    let mut part = [0u8; 4096];
-    for _ in 0..u64::MAX {
-        let count = input.read(&mut part)?;
-        file.extend_from_slice(&part[..count])?;
-        if count == 0 || file.len() > LARGEST {
-            break;
-        }
-    }
+    rt.stdin().take(LARGEST as u64 + 1).read_to_end(&mut file)?;
     Ok(file)
 }
 
@@ -73,21 +65,30 @@ fn settle<K: PrintedKind, T: PrintedTally>(
     Ok(None)
 }
 
-/// The sheet whose head waits, by its letters.
+/// The sheet whose head waits, by the kind and the tally that the head names.
 fn settle_one(
     rt: HostRuntime,
     reader: &mut Reader,
     head: Head,
     number: u64,
 ) -> anyhow::Result<Option<SheetFault>> {
-    match (head.letter, head.tally) {
-        (b'M', b'w') => settle::<Moments, ByWeight>(rt, reader, number),
-        (b'M', b'r') => settle::<Moments, SwornFirst>(rt, reader, number),
-        (b'S', b'w') => settle::<Spells, ByWeight>(rt, reader, number),
-        (b'S', b'r') => settle::<Spells, SwornFirst>(rt, reader, number),
-        (b'D', b'w') => settle::<Dwellings, ByWeight>(rt, reader, number),
-        (b'D', b'r') => settle::<Dwellings, SwornFirst>(rt, reader, number),
-        _ => Err(anyhow!("a head of an unknown kind or tally")),
+    match (head.kind, head.tally) {
+        (HeadKind::Moments, HeadTally::ByWeight) => {
+            settle::<Moments, ByWeight>(rt, reader, number)
+        }
+        (HeadKind::Moments, HeadTally::SwornFirst) => {
+            settle::<Moments, SwornFirst>(rt, reader, number)
+        }
+        (HeadKind::Spells, HeadTally::ByWeight) => settle::<Spells, ByWeight>(rt, reader, number),
+        (HeadKind::Spells, HeadTally::SwornFirst) => {
+            settle::<Spells, SwornFirst>(rt, reader, number)
+        }
+        (HeadKind::Dwellings, HeadTally::ByWeight) => {
+            settle::<Dwellings, ByWeight>(rt, reader, number)
+        }
+        (HeadKind::Dwellings, HeadTally::SwornFirst) => {
+            settle::<Dwellings, SwornFirst>(rt, reader, number)
+        }
     }
 }
 
@@ -95,13 +96,13 @@ fn settle_one(
 fn settle_all(rt: HostRuntime, file: &[u8]) -> anyhow::Result<Option<SheetFault>> {
     let mut reader = Reader::new(file);
     for number in 1..u64::MAX {
-        let fault = match reader.next_head() {
-            Ok(Some(head)) => settle_one(rt, &mut reader, head, number)?,
+        let head = match reader.next_head() {
+            Ok(Some(head)) => head,
             Ok(None) => return Ok(None),
-            Err(fault) => Some(fault),
+            Err(fault) => return Ok(Some(fault)),
         };
-        if fault.is_some() {
-            return Ok(fault);
+        if let Some(fault) = settle_one(rt, &mut reader, head, number)? {
+            return Ok(Some(fault));
         }
     }
     Ok(None)

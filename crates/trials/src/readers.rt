@@ -23,21 +23,23 @@ enum Answer {
     Refused(u8, u32, u32, u8),
 }
 
-fn refused(fault: SheetFault) -> Answer {
-    Answer::Refused(
-        fault.number(),
-        fault.place.sheet,
-        fault.place.line,
-        fault.field(),
-    )
+impl From<SheetFault> for Answer {
+    fn from(fault: SheetFault) -> Answer {
+        Answer::Refused(
+            fault.number(),
+            fault.place.sheet,
+            fault.place.line,
+            fault.field(),
+        )
+    }
 }
 
 /// Asks for the next head.
 fn head(reader: &mut Reader) -> Answer {
     match reader.next_head() {
-        Ok(Some(head)) => Answer::Head(head.letter, head.size, head.tally),
+        Ok(Some(head)) => Answer::Head(head.kind.into(), head.size, head.tally.into()),
         Ok(None) => Answer::NoHead,
-        Err(fault) => refused(fault),
+        Err(fault) => fault.into(),
     }
 }
 
@@ -48,7 +50,7 @@ fn load<K: Kind + Notation, T: Tally + TallyLetter>(
 ) -> (Answer, u8, usize) {
     let answer = match reader.load(draft) {
         Ok(()) => Answer::Loaded,
-        Err(fault) => refused(fault),
+        Err(fault) => fault.into(),
     };
     (answer, draft.items(), draft.entered())
 }
@@ -65,19 +67,22 @@ fn read<K: Kind + Notation, T: Tally + TallyLetter>(
     }
 }
 
-/// What the statement with a number says, or zeros.
-fn look<K: Kind, T: Tally>(draft: &Draft<K, T>, number: u32) -> (u8, u8, u64, u16, u8, bool) {
-    match draft.look(number) {
-        Ok((s, _)) => (s.first, s.second, s.set, s.weight, s.person, s.sworn),
-        Err(_) => (0, 0, 0, 0, 0, false),
-    }
+/// What the statement with a number says, if there is one.
+fn look<K: Kind, T: Tally>(
+    draft: &Draft<K, T>,
+    number: u32,
+) -> Option<(u8, u8, u64, u16, u8, bool)> {
+    let (s, _) = draft.look(number).ok()?;
+    Some((s.first, s.second, s.set, s.weight, s.person, s.sworn))
 }
 
 // The number of a fault, and its place.
 type Told = (u8, u32, u32, u8);
 
-fn as_answer(fault: Told) -> Answer {
-    Answer::Refused(fault.0, fault.1, fault.2, fault.3)
+impl From<Told> for Answer {
+    fn from((number, sheet, line, field): Told) -> Answer {
+        Answer::Refused(number, sheet, line, field)
+    }
 }
 
 // Files that are refused before any head, or at the first.
@@ -117,7 +122,7 @@ fn heads_refused(rt: HostRuntime) -> Result<(), Fail> {
     for (file, fault) in HEADS {
         let mut reader = Reader::new(file.as_bytes());
         for _ in 0..2 {
-            assert!(rt; head(&mut reader) == as_answer(fault), "{file}");
+            assert!(rt; head(&mut reader) == Answer::from(fault), "{file}");
         }
     }
     Ok(())
@@ -168,7 +173,7 @@ fn statements_refused(rt: HostRuntime) -> Result<(), Fail> {
         assert!(rt; head(&mut reader) == Answer::Head(b'M', 3, b'w'), "{file}");
         for _ in 0..2 {
             assert!(rt;
-                load(&mut reader, &mut draft) == (as_answer(fault), 3, 0),
+                load(&mut reader, &mut draft) == (Answer::from(fault), 3, 0),
                 "{file}"
             );
         }
@@ -188,9 +193,9 @@ fn moments_loaded(rt: HostRuntime) -> Result<(), Fail> {
             read(file.as_bytes(), &mut draft) == (Answer::Loaded, 3, 3),
             "{file}"
         );
-        assert!(rt; look(&draft, 1) == (1, 2, 2, 3, 1, false), "{file}");
-        assert!(rt; look(&draft, 2) == (2, 3, 2, 2, 1, false), "{file}");
-        assert!(rt; look(&draft, 3) == (1, 3, 4, 4, 2, false), "{file}");
+        assert!(rt; look(&draft, 1) == Some((1, 2, 2, 3, 1, false)), "{file}");
+        assert!(rt; look(&draft, 2) == Some((2, 3, 2, 2, 1, false)), "{file}");
+        assert!(rt; look(&draft, 3) == Some((1, 3, 4, 4, 2, false)), "{file}");
     }
     for (file, items, entered) in [
         ("M 12 w", 12, 0),
@@ -202,8 +207,8 @@ fn moments_loaded(rt: HostRuntime) -> Result<(), Fail> {
             "{file}"
         );
     }
-    assert!(rt; look(&draft, 1) == (1, 2, 0, 1000, 20, true));
-    assert!(rt; look(&draft, 2) == (1, 2, 7, 1, 1, false));
+    assert!(rt; look(&draft, 1) == Some((1, 2, 0, 1000, 20, true)));
+    assert!(rt; look(&draft, 2) == Some((1, 2, 7, 1, 1, false)));
     Ok(())
 }
 
@@ -212,8 +217,8 @@ fn spells_loaded(rt: HostRuntime) -> Result<(), Fail> {
     let mut draft: Draft<Spells, ByWeight> = Draft::new(rt.alloc()).ok().ok_or("no memory")?;
     let file = "S 2 w\n1 2 eq/p/pi/m/mi/o/oi/s/si/d/di/f/fi 1000 20 !\n2 1 p/pi 5 1\n";
     assert!(rt; read(file.as_bytes(), &mut draft) == (Answer::Loaded, 2, 2));
-    assert!(rt; look(&draft, 1) == (1, 2, 8191, 1000, 20, true));
-    assert!(rt; look(&draft, 2) == (1, 2, 6, 5, 1, false));
+    assert!(rt; look(&draft, 1) == Some((1, 2, 8191, 1000, 20, true)));
+    assert!(rt; look(&draft, 2) == Some((1, 2, 6, 5, 1, false)));
     let file = "S 2 w\n1 2 p/ 3 1\n";
     assert!(rt; read(file.as_bytes(), &mut draft) == (Answer::Refused(15, 1, 2, 3), 2, 0));
     Ok(())
@@ -224,50 +229,17 @@ fn dwellings_loaded(rt: HostRuntime) -> Result<(), Fail> {
     let mut draft: Draft<Dwellings, SwornFirst> = Draft::new(rt.alloc()).ok().ok_or("no memory")?;
     let file = "D 4 r\n1 2 n/nw 3 1\n4 3 s 7 2 !\n1 4  1 1\n1 2 e/se/sw/w/ne/eq 1 1\n";
     assert!(rt; read(file.as_bytes(), &mut draft) == (Answer::Loaded, 4, 4));
-    assert!(rt; look(&draft, 1) == (1, 2, 258, 3, 1, false));
-    assert!(rt; look(&draft, 2) == (3, 4, 2, 7, 2, true));
-    assert!(rt; look(&draft, 3) == (1, 4, 0, 1, 1, false));
-    assert!(rt; look(&draft, 4) == (1, 2, 221, 1, 1, false));
+    assert!(rt; look(&draft, 1) == Some((1, 2, 258, 3, 1, false)));
+    assert!(rt; look(&draft, 2) == Some((3, 4, 2, 7, 2, true)));
+    assert!(rt; look(&draft, 3) == Some((1, 4, 0, 1, 1, false)));
+    assert!(rt; look(&draft, 4) == Some((1, 2, 221, 1, 1, false)));
     let file = "D 4 r\n1 2 p 3 1\n";
     assert!(rt; read(file.as_bytes(), &mut draft) == (Answer::Refused(15, 1, 2, 3), 4, 0));
     Ok(())
 }
 
-// The next head, or a load into a draft of a kind and a tally.
-#[derive(Clone, Copy)]
-enum Call {
-    Head,
-    MomentsByWeight,
-    MomentsSworn,
-    SpellsSworn,
-}
-
 const SEVERAL: &str =
     "M 3 w\n1 2 < 3 1\nS 4 r\n1 2 p 3 1\nunfit\nM 2 r\n2 1 = 1 1 !\n1 2 = 0 1\nD 0 w\n";
-
-// Calls of a reader of these sheets, and what each answers; after a load, how many items and statements the draft has.
-const CALLS: [(Call, (Answer, u8, usize)); 15] = [
-    // No head waits before one is asked for.
-    (Call::MomentsByWeight, (Answer::Refused(12, 0, 0, 0), 1, 0)),
-    (Call::Head, (Answer::Head(b'M', 3, b'w'), 0, 0)),
-    // The drafts are of another kind or tally.
-    (Call::SpellsSworn, (Answer::Refused(16, 0, 0, 0), 1, 0)),
-    (Call::MomentsSworn, (Answer::Refused(16, 0, 0, 0), 1, 0)),
-    (Call::MomentsByWeight, (Answer::Loaded, 3, 1)),
-    // A sheet is loaded once; that no head waits is told first.
-    (Call::MomentsByWeight, (Answer::Refused(12, 0, 0, 0), 3, 1)),
-    (Call::MomentsSworn, (Answer::Refused(12, 0, 0, 0), 1, 0)),
-    (Call::Head, (Answer::Head(b'S', 4, b'r'), 0, 0)),
-    // An unfit line: the sheet cannot be loaded, and is passed over.
-    (Call::SpellsSworn, (Answer::Refused(13, 2, 5, 0), 4, 0)),
-    (Call::Head, (Answer::Head(b'M', 2, b'r'), 0, 0)),
-    // The fourth head is unfit, and the third still waits.
-    (Call::Head, (Answer::Refused(1, 4, 9, 2), 0, 0)),
-    (Call::MomentsSworn, (Answer::Refused(5, 3, 8, 4), 2, 0)),
-    (Call::Head, (Answer::Refused(1, 4, 9, 2), 0, 0)),
-    (Call::MomentsByWeight, (Answer::Refused(16, 0, 0, 0), 3, 1)),
-    (Call::MomentsSworn, (Answer::Refused(5, 3, 8, 4), 2, 0)),
-];
 
 #[test]
 fn several_sheets(rt: HostRuntime) -> Result<(), Fail> {
@@ -276,15 +248,26 @@ fn several_sheets(rt: HostRuntime) -> Result<(), Fail> {
     let mut sworn: Draft<Moments, SwornFirst> = Draft::new(heap).ok().ok_or("no memory")?;
     let mut spells: Draft<Spells, SwornFirst> = Draft::new(heap).ok().ok_or("no memory")?;
     let mut reader = Reader::new(SEVERAL.as_bytes());
-    for (call, wanted) in CALLS {
-        let answer = match call {
-            Call::Head => (head(&mut reader), 0, 0),
-            Call::MomentsByWeight => load(&mut reader, &mut moments),
-            Call::MomentsSworn => load(&mut reader, &mut sworn),
-            Call::SpellsSworn => load(&mut reader, &mut spells),
-        };
-        assert!(rt; answer == wanted);
-    }
+    // No head waits before one is asked for.
+    assert!(rt; load(&mut reader, &mut moments) == (Answer::Refused(12, 0, 0, 0), 1, 0));
+    assert!(rt; head(&mut reader) == Answer::Head(b'M', 3, b'w'));
+    // The drafts are of another kind or tally.
+    assert!(rt; load(&mut reader, &mut spells) == (Answer::Refused(16, 0, 0, 0), 1, 0));
+    assert!(rt; load(&mut reader, &mut sworn) == (Answer::Refused(16, 0, 0, 0), 1, 0));
+    assert!(rt; load(&mut reader, &mut moments) == (Answer::Loaded, 3, 1));
+    // A sheet is loaded once; that no head waits is told first.
+    assert!(rt; load(&mut reader, &mut moments) == (Answer::Refused(12, 0, 0, 0), 3, 1));
+    assert!(rt; load(&mut reader, &mut sworn) == (Answer::Refused(12, 0, 0, 0), 1, 0));
+    assert!(rt; head(&mut reader) == Answer::Head(b'S', 4, b'r'));
+    // An unfit line: the sheet cannot be loaded, and is passed over.
+    assert!(rt; load(&mut reader, &mut spells) == (Answer::Refused(13, 2, 5, 0), 4, 0));
+    assert!(rt; head(&mut reader) == Answer::Head(b'M', 2, b'r'));
+    // The fourth head is unfit, and the third still waits.
+    assert!(rt; head(&mut reader) == Answer::Refused(1, 4, 9, 2));
+    assert!(rt; load(&mut reader, &mut sworn) == (Answer::Refused(5, 3, 8, 4), 2, 0));
+    assert!(rt; head(&mut reader) == Answer::Refused(1, 4, 9, 2));
+    assert!(rt; load(&mut reader, &mut moments) == (Answer::Refused(16, 0, 0, 0), 3, 1));
+    assert!(rt; load(&mut reader, &mut sworn) == (Answer::Refused(5, 3, 8, 4), 2, 0));
     Ok(())
 }
 
@@ -354,13 +337,13 @@ fn long_heads(rt: HostRuntime) -> Result<(), Fail> {
         ("m", 80, (17, 0, 1, 0)),
     ] {
         let file = repeated(heap, first, "x", more)?;
-        let answers = (as_answer(fault), as_answer(fault));
+        let answers = (Answer::from(fault), Answer::from(fault));
         assert!(rt; two_heads(file.as_slice()) == answers, "{first}");
     }
     // The first head is answered, and the second refused.
     for (more, fault) in [(79, (13, 2, 3, 0)), (80, (17, 2, 3, 0))] {
         let file = repeated(heap, "M 3 w\n1 2 < 3 1\nZ", "x", more)?;
-        let answers = (Answer::Head(b'M', 3, b'w'), as_answer(fault));
+        let answers = (Answer::Head(b'M', 3, b'w'), Answer::from(fault));
         assert!(rt; two_heads(file.as_slice()) == answers, "{more}");
     }
     Ok(())

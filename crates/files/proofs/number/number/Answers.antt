@@ -1,14 +1,8 @@
-use Rattle.std.proofs.Common.{◌≡◌, Ok, Err, sym, arith, rules}
-use Rattle.std.proofs.lemmas.Bool.Decides.{nat_tests}
+use Rattle.std.proofs.Common.{◌≡◌, Err, rules}
 use Rattle.files.specs.declared.fault.FieldFault.TheVariants.{NotNumber}
 use Rattle.files.specs.Numbers.{is_number, number_in}
-use Rattle.files.proofs.Digits.{just_zero, as_written}
+use Rattle.files.proofs.Digits.{as_written}
 use Rattle.files.proofs.number.number.Goals as goal
-
-pub returns-in-48 : goal.returns-in-48
-returns-in-48 c =
-    let e = sym (just_zero c.args.field.now (grind (arith, nat_tests)) (omega arith)) in
-    record { number = e; written = as_written c.args.field.now (Ok 0) e }
 
 pub returns-in_default : goal.returns-in_default
 unfolding is_number

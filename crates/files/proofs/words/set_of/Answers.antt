@@ -1,4 +1,5 @@
 use Rattle.std.proofs.Common.{Ok, rules, sym, ap, ◌∙◌, true-eqb, false-eqb}
+use Rattle.files.specs.Parts.{left}
 use Rattle.files.specs.Words.{code_of, all_words, with_words}
 use Rattle.files.specs.Faults.{given}
 use Rattle.files.specs.declared.fault.FieldFault.TheVariants.{NotWord}
@@ -31,4 +32,4 @@ pub loop-word-init : goal.loop-word-init
 loop-word-init g c =
     let code = code_of g.K.Kind.meaning.codes g.K.Notation.words in
     some_words code c.args.field.now (false-eqb _ 0 c.if-is_empty.ensures)
-    ∙ ap (λ ws. given (all_words code ws) (with_words code 0 ws) NotWord) (sym c.new-words.ensures.parts)
+    ∙ ap (λ ws. given (all_words code ws) (with_words code 0 ws) NotWord) (sym (ap left c.into_iter-word-iterator.ensures.into_iter_gives ∙ c.new-word-items.ensures.parts))

@@ -1,4 +1,4 @@
-use Rattle.std.proofs.Common.{◌≡◌, length}
+use Rattle.std.proofs.Common.{◌≡◌}
 use Rattle.files.specs.Parts.{left}
 use Rattle.files.specs.Words.{code_of, all_words, with_words, set_in}
 use Rattle.files.specs.Faults.{given}
@@ -9,7 +9,4 @@ use Rattle.files.proofs.words.set_of.Given as the
 abbrev pub invariant-loop-word : the.invariant-loop-word
 invariant-loop-word g l =
     let code = code_of g.K.Kind.meaning.codes g.K.Notation.words in
-    set_in code l.field ≡ given (all_words code (left l.words)) (with_words code l.set (left l.words)) NotWord
-
-abbrev pub decreases-loop-word : the.decreases-loop-word
-decreases-loop-word g l = length (left l.words)
+    set_in code l.field ≡ given (all_words code (left l.word-iterator)) (with_words code l.set (left l.word-iterator)) NotWord

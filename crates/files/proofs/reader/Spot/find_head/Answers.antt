@@ -12,16 +12,16 @@ returns-in_err-head-in_default-HeadLine-clause-answer c =
     let q = c.loop-line.self.place in
     let l = c.in-Some.line.now in
     let a = answer_at_head c.args.self.now.place q (lines c.args.self.now.ahead.rest.now) (lines c.loop-line.self.ahead.rest.now) (lines c.next.new.self.rest.now) l
-    c.loop-line.invariant c.in-Some.ensures (head_known l (sym c.in_default-HeadLine.ensures)) in
-    rw (p.1, p.2) (located_err (record { sheet = q.sheet + 1; line = q.line + 1 }) _ (head_in l) (c.in_err-head-in_default-HeadLine.ensures ∙ ap (placed_at _) c.parse_head.ensures.head) ∙ a)
+    c.loop-line.invariant c.in-Some.ensures.steps (head_known l (sym c.in_default-HeadLine.ensures)) in
+    rw (p.1, p.2) (located_err (record { sheet = q.sheet + 1; line = q.line + 1 }) _ (head_in l) (c.in_err-head-in_default-HeadLine.ensures ∙ ap (placed_at _) c.parse_head.ensures) ∙ a)
 
 pub returns-in_default-HeadLine-clause-answer : goal.returns-in_default-HeadLine-clause-answer
 returns-in_default-HeadLine-clause-answer c =
     let q = c.loop-line.self.place in
     let l = c.in-Some.line.now in
     let a = answer_at_head c.args.self.now.place q (lines c.args.self.now.ahead.rest.now) (lines c.loop-line.self.ahead.rest.now) (lines c.next.new.self.rest.now) l
-    c.loop-line.invariant c.in-Some.ensures (head_known l (sym c.in_default-HeadLine.ensures)) in
-    located_ok (record { sheet = q.sheet + 1; line = q.line + 1 }) _ (head_in l) (c.in_ok-head-in_default-HeadLine.ensures ∙ ap (placed_at _) c.parse_head.ensures.head) ∙ a
+    c.loop-line.invariant c.in-Some.ensures.steps (head_known l (sym c.in_default-HeadLine.ensures)) in
+    located_ok (record { sheet = q.sheet + 1; line = q.line + 1 }) _ (head_in l) (c.in_ok-head-in_default-HeadLine.ensures ∙ ap (placed_at _) c.parse_head.ensures) ∙ a
 
 pub returns-in_default-HeadLine-clause-moved : goal.returns-in_default-HeadLine-clause-moved
 returns-in_default-HeadLine-clause-moved c =
@@ -32,10 +32,10 @@ returns-in_default-HeadLine-clause-moved c =
     let ms = lines c.loop-line.self.ahead.rest.now in
     let ns = lines c.next.new.self.rest.now in
     let l = c.in-Some.line.now in
-    (place_of_head p q ls ms ns l c.loop-line.invariant c.in-Some.ensures h, head_rest p q ls ms ns l c.loop-line.invariant c.in-Some.ensures h)
+    (place_of_head p q ls ms ns l c.loop-line.invariant c.in-Some.ensures.steps h, head_rest p q ls ms ns l c.loop-line.invariant c.in-Some.ensures.steps h)
 
 pub loop-line-preserved : goal.loop-line-preserved
 loop-line-preserved c =
     let h = c.in-InSheet-StatementLine in
     passed c.args.self.now.place c.loop-line.self.place (lines c.args.self.now.ahead.rest.now) (lines c.loop-line.self.ahead.rest.now) (lines c.next.new.self.rest.now) c.in-Some.line.now
-    c.loop-line.invariant c.in-Some.ensures (no_head c.in-Some.line.now (sym c.class_of.ensures ∙ h.is-1)) (some_sheet c.loop-line.self.place (sym c.state.ensures ∙ h.is-0))
+    c.loop-line.invariant c.in-Some.ensures.steps (no_head c.in-Some.line.now (sym c.class_of.ensures ∙ h.is-1)) (some_sheet c.loop-line.self.place (sym c.state.ensures ∙ h.is-0))
