@@ -23,6 +23,7 @@ pub struct Closed<K: Kind, T: Tally> {
     pub(crate) sheet: Sheet,
     pub(crate) ledger: Ledger<T::Cost>,
     pub(crate) of: PhantomData<(K, T)>,
+    ghost sound: { SoundSheet K.Kind.meaning (rules K.Kind.meaning K.Kind.fit T.Joins.joining T.Tally.order) sheet },
 }
 
 /// What a show answers: the cost of the values, the lower bound of the sheet, and whether the search has finished.

@@ -1,11 +1,12 @@
 // What is asked of a draft.
 ghost use Rattle.std.specs.Prelude.{◌≡◌, ◌≤◌, true, IfOk};
 ghost use Rattle.rules.specs.Properly.{row_proper};
-ghost use Rattle.statements.specs.Drafts.{ByChecks, entry_checks, row_of, Means};
+ghost use Rattle.statements.specs.Drafts.{ByChecks, entry_checks, row_of, Means, entered_as};
 
 use crate::codes::only_codes;
 use crate::converses::converses;
 use crate::fault::Fault;
+use crate::statement::Statement;
 use kinds::kind::Kind;
 use rules::row::Row;
 
@@ -73,6 +74,22 @@ impl Entry {
             person: self.person as u8,
             sworn: self.sworn,
             struck: false,
+        }
+    }
+}
+
+/// The entry that a statement stands for.
+impl From<Statement> for Entry {
+    ghost from_gives = { λ s e. e ≡ entered_as s };
+
+    fn from(statement: Statement) -> Entry {
+        Entry {
+            first: u32::from(statement.first),
+            second: u32::from(statement.second),
+            set: statement.set,
+            weight: u32::from(statement.weight),
+            person: u32::from(statement.person),
+            sworn: statement.sworn,
         }
     }
 }

@@ -1,9 +1,14 @@
 // Refusals.
 ghost use Rattle.std.specs.Prelude.{◌≡◌};
+ghost use Rattle.statements.specs.declared.fault.Fault.TheVariants.{Memory};
 ghost use Rattle.statements.specs.Faults.{number as number_of};
 
+use std::alloc::AllocError;
+use std::error::Error;
+use std::fmt;
+
 /// Why a call is refused. A refused call changes nothing.
-#[derive(Clone, Copy, PartialEq, Eq)]
+#[derive(Clone, Copy, Debug, PartialEq, Eq)]
 pub enum Fault {
     /// The size is not 1 to 12.
     Size,
@@ -52,3 +57,21 @@ impl Fault {
         }
     }
 }
+
+impl From<AllocError> for Fault {
+    ghost from_gives = { λ _ r. r ≡ Memory };
+
+    fn from(_e: AllocError) -> Fault {
+        Fault::Memory
+    }
+}
+
+/// `refused by` and the number.
+impl fmt::Display for Fault {
+    fn fmt<W: fmt::Write>(&self, f: &mut fmt::Formatter<W>) -> fmt::Result {
+        let number = self.number();
+        write!(f, "refused by {number}")
+    }
+}
+
+impl Error for Fault {}
