@@ -37,7 +37,7 @@ impl Entry {
     fn check<K: Kind>(&self, items: u32) -> Result<(), Fault>
         ensures { ByChecks (entry_checks K.Kind.meaning.codes items self.now) result (λ _. Unit {0}) (Unit {0}) }
     {
-        if self.first < 1 || self.first > items || self.second < 1 || self.second > items {
+        if !(1..=items).contains(&self.first) || !(1..=items).contains(&self.second) {
             return Err(Fault::Item);
         }
         if self.first == self.second {
@@ -46,10 +46,10 @@ impl Entry {
         if !only_codes::<K>(self.set) {
             return Err(Fault::Code);
         }
-        if self.weight < 1 || self.weight > 1000 {
+        if !(1..=1000).contains(&self.weight) {
             return Err(Fault::Weight);
         }
-        if self.person < 1 || self.person > 20 {
+        if !(1..=20).contains(&self.person) {
             return Err(Fault::Person);
         }
         Ok(())
