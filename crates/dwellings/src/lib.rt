@@ -1,7 +1,8 @@
 // The kind D: dwellings, with the cardinal directions.
 #![tactic(auto)]
 
-ghost use Rattle.std.specs.Prelude.{◌≡◌, ℕ};
+ghost use Rattle.std.specs.Prelude.{◌≡◌, ℕ, ◌∷◌, ◌++◌, Some};
+ghost use Rattle.std.specs.Fmt.{decimal};
 ghost use Rattle.points.specs.Marks.{Draws};
 ghost use Rattle.points.specs.Sets.{has};
 ghost use Rattle.kinds.specs.Layouts.{fit};
@@ -16,6 +17,7 @@ use kinds::notation::Notation;
 use points::axis::Axis;
 use points::set::contains;
 use std::cmp::Ordering;
+use std::fmt;
 
 /// A place in the plane, by a number that grows to the east and one that grows to the north.
 #[derive(Clone, Copy)]
@@ -232,5 +234,15 @@ impl Notation for Dwellings {
             [b'n', b'w'] => Some(8),
             _ => None,
         }
+    }
+}
+
+/// The east number, a space, the north number.
+impl fmt::Display for Dwelling {
+    ghost output = { λ d. Some (decimal d.east ++ 32 ∷ decimal d.north) };
+
+    fn fmt<W: fmt::Write>(&self, f: &mut fmt::Formatter<W>) -> fmt::Result {
+        let Dwelling { east, north } = *self;
+        write!(f, "{east} {north}")
     }
 }

@@ -1,7 +1,8 @@
 // The kind M: moments, with the base relations of the point algebra.
 #![tactic(auto)]
 
-ghost use Rattle.std.specs.Prelude.{◌≡◌, ℕ};
+ghost use Rattle.std.specs.Prelude.{◌≡◌, ℕ, Some};
+ghost use Rattle.std.specs.Fmt.{decimal};
 ghost use Rattle.points.specs.Marks.{Draws};
 ghost use Rattle.points.specs.Sets.{has};
 ghost use Rattle.kinds.specs.Layouts.{fit};
@@ -16,6 +17,7 @@ use kinds::notation::Notation;
 use points::axis::Axis;
 use points::set::contains;
 use std::cmp::Ordering;
+use std::fmt;
 
 /// A point in time, by a whole number.
 #[derive(Clone, Copy)]
@@ -135,5 +137,15 @@ impl Notation for Moments {
             [b'>'] => Some(2),
             _ => None,
         }
+    }
+}
+
+/// The number.
+impl fmt::Display for Moment {
+    ghost output = { λ m. Some (decimal m.at) };
+
+    fn fmt<W: fmt::Write>(&self, f: &mut fmt::Formatter<W>) -> fmt::Result {
+        let at = self.at;
+        write!(f, "{at}")
     }
 }
