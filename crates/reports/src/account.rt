@@ -62,15 +62,9 @@ pub fn account<K: PrintedKind, T: PrintedTally>(
     ensures bytes { PutsOrWants (report_on (print K.Notation.initial T.TallyLetter.initial K.PrintedKind.value_text T.PrintedTally.cost_text) (λ c. T.Tally.order c T.Joins.joining.empty) number (account_of K.Kind.values (rules K.Kind.meaning K.Kind.fit T.Joins.joining T.Tally.order) 1000000 draft.items draft.rows.items)) buffer.old buffer.new result }
     ensures law { IfOk result (λ _. AccountLaw K.Kind.meaning (rules K.Kind.meaning K.Kind.fit T.Joins.joining T.Tally.order) draft.items draft.rows.items (searched (rules K.Kind.meaning K.Kind.fit T.Joins.joining T.Tally.order) 1000000 draft.items draft.rows.items) (account_of K.Kind.values (rules K.Kind.meaning K.Kind.fit T.Joins.joining T.Tally.order) 1000000 draft.items draft.rows.items)) }
 {
-    let Ok(answers) = settle(heap, draft, STEPS) else {
-        return Err(Fault::Memory);
-    };
-    let Ok(charges) = charges_in(heap, answers.as_slice()) else {
-        return Err(Fault::Memory);
-    };
-    let Some(sight) = first_sight(answers.as_slice()) else {
-        unreachable()
-    };
+    let answers = settle(heap, draft, STEPS)?;
+    let charges = charges_in(heap, answers.as_slice())?;
+    let sight = first_sight(answers.as_slice()).unwrap();
     let report = Report {
         number,
         sight,
