@@ -25,13 +25,8 @@ pub const STEPS: u32 = 1_000_000;
 fn settling(heap: Global, steps: u32) -> Result<Vec<Call>, AllocError>
     ensures { IfOk result (λ v. v.items ≡ calls_of steps) }
 {
-    let mut script = Vec::new(heap);
-    script.push(Call::Close)?;
-    script.push(Call::Search(steps))?;
-    script.push(Call::Show(12))?;
-    for person in 1..21 {
-        script.push(Call::Charge(person))?;
-    }
+    let mut script = vec![in heap; Call::Close, Call::Search(steps), Call::Show(12)]?;
+    script.extend((1..21).map(|person| Call::Charge(person)))?;
     Ok(script)
 }
 
@@ -46,8 +41,7 @@ fn settle<K: Kind, T: Tally>(
     ensures law { IfOk result (λ _. AccountLaw K.Kind.meaning (rules K.Kind.meaning K.Kind.fit T.Joins.joining T.Tally.order) draft.items draft.rows.items (searched (rules K.Kind.meaning K.Kind.fit T.Joins.joining T.Tally.order) steps draft.items draft.rows.items) (account_of K.Kind.values (rules K.Kind.meaning K.Kind.fit T.Joins.joining T.Tally.order) steps draft.items draft.rows.items)) }
 {
     let script = settling(heap, steps)?;
-    let answers = replay(heap, draft, script.as_slice())?;
-    Ok(answers)
+    replay(heap, draft, script.as_slice())
 }
 
 /// Settles a sheet: closes it, lets it search for 1,000,000 steps, and writes the report of what it shows and of the charges of all

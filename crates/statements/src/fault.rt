@@ -1,5 +1,6 @@
 // Refusals.
-ghost use Rattle.std.specs.Prelude.{◌≡◌};
+ghost use Rattle.std.specs.Prelude.{◌≡◌, ◌++◌, Some, codes};
+ghost use Rattle.std.specs.Fmt.{decimal};
 ghost use Rattle.statements.specs.declared.fault.Fault.TheVariants.{Memory};
 ghost use Rattle.statements.specs.Faults.{number as number_of};
 
@@ -55,6 +56,8 @@ impl From<AllocError> for Fault {
 
 /// `refused by` and the number.
 impl fmt::Display for Fault {
+    ghost output = { λ f. Some (codes "refused by " ++ decimal (number_of f)) };
+
     fn fmt<W: fmt::Write>(&self, f: &mut fmt::Formatter<W>) -> fmt::Result {
         let number = self.number();
         write!(f, "refused by {number}")
