@@ -26,7 +26,9 @@ fn settling(heap: Global, steps: u32) -> Result<Vec<Call>, AllocError>
     ensures { IfOk result (λ v. v.items ≡ calls_of steps) }
 {
     let mut script = vec![in heap; Call::Close, Call::Search(steps), Call::Show(12)]?;
-    script.extend((1..21).map(|person| Call::Charge(person)))?;
+    for person in 1..21 {
+        script.push(Call::Charge(person))?;
+    }
     Ok(script)
 }
 

@@ -1,18 +1,19 @@
--- The first three calls, and the charges of all persons after them.
-use Rattle.std.proofs.Common.{◌≡◌, ◌≤◌, ◌++◌, vec_capacity, OnOk, refl, ap, ◌∙◌, map, subst}
+use Rattle.std.proofs.Common.{◌≡◌, ◌∷◌, ◌-◌, ◌+◌, ◌++◌, [], ap, sym, ◌∙◌, map, arith}
 use Rattle.std.specs.List.{range_with_len}
-use Rattle.std.proofs.lemmas.Result.{on_ok_weaker}
-use Rattle.std.proofs.lemmas.Iterator.{YieldsList-from_range, YieldsList-from_map}
-use Rattle.std.proofs.lemmas.Iterator.Adapters.{items_from_extend}
-use Rattle.runs.specs.declared.call.Call.TheVariants.{Charge}
+use Rattle.std.proofs.lemmas.List.FromFn.{map-range_with_len_more}
+use Rattle.runs.specs.declared.call.Call.TheVariants.{Close, Search, Show, Charge}
 use Rattle.reports.specs.Account.{settling}
 use Rattle.reports.proofs.account.settling.Goals as goal
+
+pub loop-person-preserved : goal.loop-person-preserved
+loop-person-preserved c =
+    let i = c.loop-person.person - 1 in
+    let count : c.loop-person.person + 1 - 1 ≡ i + 1 = omega arith in
+    c.in_ok-push.ensures.items ∙ ap (λ z. z ++ Charge c.loop-person.person ∷ []) c.loop-person.invariant
+    ∙ ap (λ z. Close ∷ Search c.args.steps ∷ Show 12 ∷ z) (sym (map-range_with_len_more Charge 1 i c.loop-person.person (omega arith)) ∙ ap (λ n. map Charge (range_with_len 1 n)) (sym count))
 
 pub returns : goal.returns
 unfolding settling
 returns c =
-    let persons = YieldsList-from_map _ Charge (YieldsList-from_range 1 21 20 c.map.ensures.source refl) c.map.ensures.closure (λ x r q k. (refl, k.met.0)) in
-    let charges = map Charge (range_with_len 1 20) in
-    subst (λ r. OnOk r (c.extend.new.self.items ≡ c.in_ok-script.script.items ++ charges)) c.in_ok-extend.was
-    (on_ok_weaker c.extend.result (λ d. d.0) (items_from_extend _ c.extend.ensures.ran persons))
-    ∙ ap (λ z. z ++ charges) c.in_ok-script.ensures.items
+    let count : c.loop-person.person - 1 ≡ 20 = omega arith in
+    c.loop-person.invariant ∙ ap (λ n. Close ∷ Search c.args.steps ∷ Show 12 ∷ map Charge (range_with_len 1 n)) count
