@@ -1,7 +1,8 @@
 // The kind D: dwellings, with the cardinal directions.
 #![tactic(auto)]
 
-ghost use Rattle.std.specs.Prelude.{refl};
+ghost use Rattle.std.specs.Prelude.{◌∷◌, ◌++◌, Some, refl};
+ghost use Rattle.std.specs.Fmt.{decimal};
 ghost use Rattle.kinds.specs.Layouts.{fit};
 ghost use Rattle.dwellings.specs.Dwellings.{dwelling_words, dwellings, compass, dwelling};
 ghost use Rattle.kinds.proofs.Framed.{laws};
@@ -15,6 +16,7 @@ use kinds::table::{Row, look_up};
 use points::axis::{Axis, Order};
 use points::set::contains;
 use std::cmp::Ordering;
+use std::fmt;
 
 /// A place in the plane, by a number that grows to the east and one that grows to the north.
 #[derive(Clone, Copy)]
@@ -237,5 +239,15 @@ impl Notation for Dwellings {
             [b'n', b'w'] => Some(8),
             _ => None,
         }
+    }
+}
+
+/// The east number, a space, the north number.
+impl fmt::Display for Dwelling {
+    ghost output = { λ d. Some (decimal d.east ++ 32 ∷ decimal d.north) };
+
+    fn fmt<W: fmt::Write>(&self, f: &mut fmt::Formatter<W>) -> fmt::Result {
+        let Dwelling { east, north } = *self;
+        write!(f, "{east} {north}")
     }
 }

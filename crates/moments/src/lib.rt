@@ -1,7 +1,8 @@
 // The kind M: moments, with the base relations of the point algebra.
 #![tactic(auto)]
 
-ghost use Rattle.std.specs.Prelude.{refl};
+ghost use Rattle.std.specs.Prelude.{Some, refl};
+ghost use Rattle.std.specs.Fmt.{decimal};
 ghost use Rattle.kinds.specs.Layouts.{fit};
 ghost use Rattle.moments.specs.Moments.{moment_words, moments, line as line_layout, moment};
 ghost use Rattle.kinds.proofs.Framed.{laws};
@@ -15,6 +16,7 @@ use kinds::table::{Row, look_up};
 use points::axis::{Axis, Order};
 use points::set::contains;
 use std::cmp::Ordering;
+use std::fmt;
 
 /// A point in time, by a whole number.
 #[derive(Clone, Copy)]
@@ -129,5 +131,15 @@ impl Notation for Moments {
             [b'>'] => Some(2),
             _ => None,
         }
+    }
+}
+
+/// The number.
+impl fmt::Display for Moment {
+    ghost output = { λ m. Some (decimal m.at) };
+
+    fn fmt<W: fmt::Write>(&self, f: &mut fmt::Formatter<W>) -> fmt::Result {
+        let at = self.at;
+        write!(f, "{at}")
     }
 }

@@ -1,5 +1,5 @@
 -- What the calls that settle a sheet answer.
-use Rattle.std.proofs.Common.{◌≡◌, ℕ, zero, suc, ◌+◌, ◌<◌, ◌≤◌, List, [], ◌∷◌, ◌++◌, length, map, Some, None, Option, vec_items, refl, ap, sym, ◌∙◌, subst, slice_index_or, true, arith}
+use Rattle.std.proofs.Common.{◌≡◌, ℕ, zero, suc, ◌+◌, ◌<◌, ◌≤◌, List, [], ◌∷◌, ◌++◌, length, map, Ok, Err, Result, IfOk, Some, None, Option, vec_items, refl, ap, sym, ◌∙◌, subst, slice_index_or, true, arith}
 use Rattle.std.specs.List.{range_with_len}
 use Rattle.std.proofs.lemmas.Bool.{le-leb}
 use Rattle.std.proofs.lemmas.List.{ext_get_or}
@@ -26,8 +26,14 @@ use Rattle.runs.specs.declared.answer.Answer.TheVariants.{Unmade, Refused, Done,
 use Rattle.runs.specs.Models.{drafting, closed, verdict, next}
 use Rattle.runs.specs.Answers.{Shows, Showing, AnswersScript}
 use Rattle.runs.specs.Law.{At, OnClosed, SightLaw, Law, wanted}
-use Rattle.reports.specs.Found.{sight_in, charge_in, or_else, first_sight, charges_in}
+use Rattle.runs.specs.Told.{sight_in, charge_in}
+use Rattle.reports.specs.Found.{or_else, first_sight, charges_in}
 use Rattle.reports.specs.Account.{Account, searched, account_at, account_of, AccountLaw, settling, Tells}
+
+pub IfOk-both : {T E : Type 0} (r : Result T E) (P Q : T → Type 0) → IfOk r P → IfOk r Q → IfOk r (λ v. P v × Q v)
+IfOk-both (Ok v) P Q p q = (p, q)
+IfOk-both (Err e) P Q p q = tt
+
 
 -- The checks of these calls pass.
 person_passes : (p : ℕ) → 1 ≤ p → p ≤ 20 → first_fault (charge_checks p) ≡ None
@@ -65,7 +71,7 @@ module _ {V C : Type 0} (m : Meaning V) (values : ℕ → List ℕ → ℕ → V
       let rest : Charging n rows s (p + 1) k bs = charging n rows s steps asked (p + 1) k bs (omega arith) (omega arith) w.1 in
       record {
         none = ap (λ (z : Answer V C). or_else (sight_in z) (first_sight bs)) is ∙ rest.none;
-        charges = ap (λ (z : Answer V C). charge_in z ++ charges_in bs) is ∙ ap (λ (z : List C). c ∷ z) rest.charges;
+        charges = ap (λ (z : Answer V C). charges_in (z ∷ bs)) is ∙ ap (λ (z : List C). c ∷ z) rest.charges;
       }
 
   -- A show on a page of 12 places.
@@ -104,8 +110,8 @@ module _ {V C : Type 0} (m : Meaning V) (values : ℕ → List ℕ → ℕ → V
   told n rows s a b c bs t done took show charges =
       let listed = values_listed n rows s show.sight show.shows in
       let all : charges_in (a ∷ b ∷ c ∷ bs) ≡ map (charge r.joining rows (entry s.incumbent)) (range_with_len 1 20) =
-      ap (λ (z : Answer V C). charge_in z ++ charges_in (b ∷ c ∷ bs)) done ∙ ap (λ (z : Answer V C). charge_in z ++ charges_in (c ∷ bs)) took
-      ∙ ap (λ (z : Answer V C). charge_in z ++ charges_in bs) show.is ∙ charges.charges in
+      ap (λ (z : Answer V C). charges_in (z ∷ b ∷ c ∷ bs)) done ∙ ap (λ (z : Answer V C). charges_in (z ∷ c ∷ bs)) took
+      ∙ ap (λ (z : Answer V C). charges_in (z ∷ bs)) show.is ∙ charges.charges in
       record {
         tells = record {
           sight = show.sight;

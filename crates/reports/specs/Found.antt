@@ -1,18 +1,11 @@
 -- What is shown and charged among the answers of a run.
-use Rattle.std.specs.Prelude.{ℕ, ◌<◌, List, [], ◌∷◌, ◌++◌, Some, None, Option}
+use Rattle.std.specs.Prelude.{ℕ, ◌<◌, List, [], ◌∷◌, Some, None, Option}
+use Rattle.std.specs.List.{filter_map}
 use Rattle.runs.specs.declared.answer.Sight.{Sight}
 use Rattle.runs.specs.declared.answer.Answer.{Answer}
-use Rattle.runs.specs.declared.answer.Answer.TheVariants.{Shown, Charged}
+use Rattle.runs.specs.declared.answer.Answer.TheVariants.{Shown}
 use Rattle.runs.specs.Law.{At}
-
--- what an answer shows, and what it charges
-abbrev pub sight_in : {V C : Type 0} → Answer V C → Option (Sight V C)
-sight_in (Shown sight) = Some sight
-sight_in a = None
-
-abbrev pub charge_in : {V C : Type 0} → Answer V C → List C
-charge_in (Charged c) = c ∷ []
-charge_in a = []
+use Rattle.runs.specs.Told.{sight_in, charge_in}
 
 abbrev pub or_else : {A : Type 0} → Option A → Option A → Option A
 or_else (Some x) o = Some x
@@ -36,5 +29,4 @@ IsFirstSight answers (Some sight) = StandsFirst answers sight
 
 -- the charges, in their order
 abbrev pub charges_in : {V C : Type 0} → List (Answer V C) → List C
-charges_in [] = []
-charges_in (a ∷ bs) = charge_in a ++ charges_in bs
+charges_in answers = filter_map charge_in answers

@@ -14,11 +14,15 @@ pub record Print (V C : Type 0) : Type 0 where
 abbrev pub print : {V C : Type 0} → ℕ → ℕ → (V → List ℕ) → (C → List ℕ) → Print V C
 print kind tally value cost = record { kind = kind; tally = tally; value = value; cost = cost }
 
--- `sheet 1 M 3 w cost 2 floor 0 final`, or `open` if the search has not finished
+-- ` cost 2 floor 0 final`, or `open` if the search has not finished
+abbrev pub costs_part : {C : Type 0} → (C → List ℕ) → C → C → Bool → List ℕ
+costs_part text cost floor finished =
+    codes " cost " ++ text cost ++ codes " floor " ++ text floor ++ cond finished (codes " final\n") (codes " open\n")
+
+-- `sheet 1 M 3 w` and the costs
 abbrev pub sheet_line : {V C : Type 0} → Print V C → ℕ → ℕ → C → C → Bool → List ℕ
 sheet_line p number items cost floor finished =
-    codes "sheet " ++ decimal number ++ (32 ∷ p.kind ∷ 32 ∷ []) ++ decimal items ++ (32 ∷ p.tally ∷ []) ++ codes " cost " ++ p.cost cost
-    ++ codes " floor " ++ p.cost floor ++ cond finished (codes " final\n") (codes " open\n")
+    codes "sheet " ++ decimal number ++ (32 ∷ p.kind ∷ 32 ∷ []) ++ decimal items ++ (32 ∷ p.tally ∷ []) ++ costs_part p.cost cost floor finished
 
 -- `item 1 4 7`: an item, counted from 1, and the numbers of its value
 abbrev pub item_line : {V C : Type 0} → Print V C → ℕ → V → List ℕ

@@ -25,10 +25,7 @@ pub const STEPS: u32 = 1_000_000;
 fn settling(heap: Global, steps: u32) -> Result<Vec<Call>, AllocError>
     ensures { IfOk result (λ v. v.items ≡ calls_of steps) }
 {
-    let mut script = Vec::new(heap);
-    script.push(Call::Close)?;
-    script.push(Call::Search(steps))?;
-    script.push(Call::Show(12))?;
+    let mut script = vec![in heap; Call::Close, Call::Search(steps), Call::Show(12)]?;
     for person in 1..21 {
         script.push(Call::Charge(person))?;
     }
@@ -46,8 +43,7 @@ fn settle<K: Kind, T: Tally>(
     ensures law { IfOk result (λ _. AccountLaw K.Kind.meaning (rules K.Kind.meaning K.Kind.fit T.Joins.joining T.Tally.order) draft.items draft.rows.items (searched (rules K.Kind.meaning K.Kind.fit T.Joins.joining T.Tally.order) steps draft.items draft.rows.items) (account_of K.Kind.values (rules K.Kind.meaning K.Kind.fit T.Joins.joining T.Tally.order) steps draft.items draft.rows.items)) }
 {
     let script = settling(heap, steps)?;
-    let answers = replay(heap, draft, script.as_slice())?;
-    Ok(answers)
+    replay(heap, draft, script.as_slice())
 }
 
 /// Settles a sheet: closes it, lets it search for 1,000,000 steps, and writes the report of what it shows and of the charges of all
@@ -62,15 +58,9 @@ pub fn account<K: PrintedKind, T: PrintedTally>(
     ensures bytes { PutsOrWants (report_on (print K.Notation.initial T.TallyLetter.initial K.PrintedKind.value_text T.PrintedTally.cost_text) (λ c. T.Tally.order c T.Joins.joining.empty) number (account_of K.Kind.values (rules K.Kind.meaning K.Kind.fit T.Joins.joining T.Tally.order) 1000000 draft.items draft.rows.items)) buffer.old buffer.new result }
     ensures law { IfOk result (λ _. AccountLaw K.Kind.meaning (rules K.Kind.meaning K.Kind.fit T.Joins.joining T.Tally.order) draft.items draft.rows.items (searched (rules K.Kind.meaning K.Kind.fit T.Joins.joining T.Tally.order) 1000000 draft.items draft.rows.items) (account_of K.Kind.values (rules K.Kind.meaning K.Kind.fit T.Joins.joining T.Tally.order) 1000000 draft.items draft.rows.items)) }
 {
-    let Ok(answers) = settle(heap, draft, STEPS) else {
-        return Err(Fault::Memory);
-    };
-    let Ok(charges) = charges_in(heap, answers.as_slice()) else {
-        return Err(Fault::Memory);
-    };
-    let Some(sight) = first_sight(answers.as_slice()) else {
-        unreachable()
-    };
+    let answers = settle(heap, draft, STEPS)?;
+    let charges = charges_in(heap, answers.as_slice())?;
+    let sight = first_sight(answers.as_slice()).unwrap();
     let report = Report {
         number,
         sight,

@@ -1,28 +1,21 @@
 // The line of a fault.
-ghost use Rattle.std.specs.Prelude.{◌≡◌, IfOk};
+ghost use Rattle.std.specs.Prelude.{◌≡◌, IfOk, string_bytes};
 ghost use Rattle.reports.specs.Lines.{PutsOrWants};
 ghost use Rattle.reports.specs.Faults.{fault_line};
 
-use crate::text::{push_number, put};
-use files::fault::SheetFault;
+use crate::text::put;
+use files::fault::{Place, SheetFault};
 use statements::fault::Fault;
 use std::alloc::{AllocError, Global};
 
 // The text of the line.
-fn fault_text(heap: Global, fault: &SheetFault) -> Result<Vec<u8>, AllocError>
-    ensures { IfOk result (λ v. v.items ≡ fault_line fault.now) }
+fn fault_text(heap: Global, fault: &SheetFault) -> Result<String, AllocError>
+    ensures { IfOk result (λ s. string_bytes s ≡ fault_line fault.now) }
 {
-    let mut text = Vec::new(heap);
-    text.extend_from_slice(b"fault ")?;
-    push_number(heap, &mut text, u64::from(fault.fault.number()))?;
-    text.extend_from_slice(b" sheet ")?;
-    push_number(heap, &mut text, u64::from(fault.place.sheet))?;
-    text.extend_from_slice(b" line ")?;
-    push_number(heap, &mut text, u64::from(fault.place.line))?;
-    text.extend_from_slice(b" field ")?;
-    push_number(heap, &mut text, u64::from(fault.fault.field()))?;
-    text.push(b'\n')?;
-    Ok(text)
+    let number = fault.number();
+    let field = fault.field();
+    let Place { sheet, line } = fault.place;
+    format!(in heap; "fault {number} sheet {sheet} line {line} field {field}\n")
 }
 
 /// Writes the line of a fault to the front of the buffer, whose rest stays, and answers how many bytes it is. Refused by `Short` if the
@@ -30,8 +23,5 @@ fn fault_text(heap: Global, fault: &SheetFault) -> Result<Vec<u8>, AllocError>
 pub fn write_fault(heap: Global, fault: &SheetFault, buffer: &mut [u8]) -> Result<usize, Fault>
     ensures { PutsOrWants (fault_line fault.now) buffer.old buffer.new result }
 {
-    match fault_text(heap, fault) {
-        Ok(text) => put(buffer, text.as_slice()),
-        Err(_) => Err(Fault::Memory),
-    }
+    put(buffer, fault_text(heap, fault)?.as_bytes())
 }

@@ -11,8 +11,9 @@ pub fn first_sight<V, C>(answers: &[Answer<V, C>]) -> Option<&Sight<V, C>>
     ensures stands { IsFirstSight answers.now (option_copied result) }
     ensures is { option_copied result ≡ first_of_sights answers.now }
 {
+    // A loop: the library says of `find_map` where it stops, and no lemma leads from there to the items of a slice.
     for answer in answers {
-        if let Answer::Shown(sight) = answer {
+        if let Some(sight) = answer.sight() {
             return Some(sight);
         }
     }
@@ -23,11 +24,5 @@ pub fn first_sight<V, C>(answers: &[Answer<V, C>]) -> Option<&Sight<V, C>>
 pub fn charges_in<V, C: Copy>(heap: Global, answers: &[Answer<V, C>]) -> Result<Vec<C>, AllocError>
     ensures { IfOk result (λ v. v.items ≡ charges_among answers.now) }
 {
-    let mut charges = Vec::new(heap);
-    for answer in answers {
-        if let Answer::Charged(charge) = answer {
-            charges.push(*charge)?;
-        }
-    }
-    Ok(charges)
+    answers.iter().filter_map(Answer::charge).collect(heap)
 }

@@ -1,9 +1,9 @@
 // The report of a settled sheet, line by line.
-ghost use Rattle.std.specs.Prelude.{◌≡◌, ◌++◌, length, IfOk, OnOk};
-ghost use Rattle.reports.specs.Lines.{print, sheet_line, item_line, person_line, lines_from, report_of, PutsOrWants};
+ghost use Rattle.std.specs.Prelude.{◌≡◌, ℕ, List, ◌++◌, length, IfOk, OnOk, string_bytes};
+ghost use Rattle.reports.specs.Lines.{print, costs_part, sheet_line, item_line, person_line, lines_from, report_of, PutsOrWants};
 
 use crate::printed::{PrintedKind, PrintedTally};
-use crate::text::{push_number, put};
+use crate::text::put;
 use files::letter::TallyLetter;
 use kinds::notation::Notation;
 use runs::answer::Sight;
@@ -19,6 +19,22 @@ pub struct Report<'a, V, C> {
     pub charges: &'a [C],
 }
 
+// The costs of the first line, and whether the search has finished.
+fn costs_text<T: PrintedTally>(
+    heap: Global,
+    cost: T::Cost,
+    floor: T::Cost,
+    finished: bool,
+) -> Result<String, AllocError>
+    ensures { IfOk result (λ s. string_bytes s ≡ costs_part T.PrintedTally.cost_text cost floor finished) }
+{
+    if finished {
+        format!(in heap; " cost {cost} floor {floor} final\n")
+    } else {
+        format!(in heap; " cost {cost} floor {floor} open\n")
+    }
+}
+
 // The first line.
 fn sheet_text<K: PrintedKind, T: PrintedTally>(
     heap: Global,
@@ -30,21 +46,11 @@ fn sheet_text<K: PrintedKind, T: PrintedTally>(
 ) -> Result<Vec<u8>, AllocError>
     ensures { IfOk result (λ v. v.items ≡ sheet_line (print K.Notation.initial T.TallyLetter.initial K.PrintedKind.value_text T.PrintedTally.cost_text) number items cost floor finished) }
 {
-    let mut text = Vec::new(heap);
-    text.extend_from_slice(b"sheet ")?;
-    push_number(heap, &mut text, number)?;
-    text.extend_from_slice(&[b' ', K::letter(), b' '])?;
-    push_number(heap, &mut text, items)?;
-    text.extend_from_slice(&[b' ', T::letter()])?;
-    text.extend_from_slice(b" cost ")?;
-    T::write_cost(heap, cost, &mut text)?;
-    text.extend_from_slice(b" floor ")?;
-    T::write_cost(heap, floor, &mut text)?;
-    if finished {
-        text.extend_from_slice(b" final\n")?;
-    } else {
-        text.extend_from_slice(b" open\n")?;
-    }
+    let mut text = format!(in heap; "sheet {number} ")?.into_bytes();
+    text.push(K::letter())?;
+    text.extend_from_slice(format!(in heap; " {items} ")?.as_bytes())?;
+    text.push(T::letter())?;
+    text.extend_from_slice(costs_text::<T>(heap, cost, floor, finished)?.as_bytes())?;
     Ok(text)
 }
 
@@ -53,16 +59,10 @@ fn item_text<K: PrintedKind, T: PrintedTally>(
     heap: Global,
     item: u64,
     value: K::Value,
-) -> Result<Vec<u8>, AllocError>
-    ensures { IfOk result (λ v. v.items ≡ item_line (print K.Notation.initial T.TallyLetter.initial K.PrintedKind.value_text T.PrintedTally.cost_text) item value) }
+) -> Result<String, AllocError>
+    ensures { IfOk result (λ s. string_bytes s ≡ item_line (print K.Notation.initial T.TallyLetter.initial K.PrintedKind.value_text T.PrintedTally.cost_text) item value) }
 {
-    let mut text = Vec::new(heap);
-    text.extend_from_slice(b"item ")?;
-    push_number(heap, &mut text, item)?;
-    text.push(b' ')?;
-    K::write_value(heap, value, &mut text)?;
-    text.push(b'\n')?;
-    Ok(text)
+    format!(in heap; "item {item} {value}\n")
 }
 
 // The line of a person, or nothing if the person is charged nothing.
@@ -70,47 +70,26 @@ fn person_text<K: PrintedKind, T: PrintedTally>(
     heap: Global,
     person: u64,
     charge: T::Cost,
-) -> Result<Vec<u8>, AllocError>
-    ensures { IfOk result (λ v. v.items ≡ person_line (print K.Notation.initial T.TallyLetter.initial K.PrintedKind.value_text T.PrintedTally.cost_text) (λ c. T.Tally.order c T.Joins.joining.empty) person charge) }
+) -> Result<String, AllocError>
+    ensures { IfOk result (λ s. string_bytes s ≡ person_line (print K.Notation.initial T.TallyLetter.initial K.PrintedKind.value_text T.PrintedTally.cost_text) (λ c. T.Tally.order c T.Joins.joining.empty) person charge) }
 {
-    let mut text = Vec::new(heap);
     if T::at_most(charge, T::empty()) {
-        return Ok(text);
+        return Ok(String::new(heap));
     }
-    text.extend_from_slice(b"person ")?;
-    push_number(heap, &mut text, person)?;
-    text.extend_from_slice(b" charge ")?;
-    T::write_cost(heap, charge, &mut text)?;
-    text.push(b'\n')?;
-    Ok(text)
+    format!(in heap; "person {person} charge {charge}\n")
 }
 
-// The lines of the items.
-fn push_items<K: PrintedKind, T: PrintedTally>(
-    heap: Global,
+// The lines of the members of a list, of which the first is counted as 1.
+fn push_lines<X: Copy, F: Fn(u64, X) -> Result<String, AllocError>>(
     text: &mut Vec<u8>,
-    values: &[K::Value],
+    members: &[X],
+    line: F,
 ) -> Result<(), AllocError>
-    ensures { OnOk result (text.new.items ≡ text.old.items ++ lines_from (item_line (print K.Notation.initial T.TallyLetter.initial K.PrintedKind.value_text T.PrintedTally.cost_text)) 1 values.now) }
+    requires { F.IsAlwaysCallable line }
+    ensures { (of : ℕ → X → List ℕ) → ((i : ℕ) (x : X) (r : _) → F.post line i x r → IfOk r (λ s. string_bytes s ≡ of i x)) → OnOk result (text.new.items ≡ text.old.items ++ lines_from of 1 members.now) }
 {
-    for (i, value) in values.iter().enumerate() {
-        let line = item_text::<K, T>(heap, i as u64 + 1, *value)?;
-        text.extend_from_slice(line.as_slice())?;
-    }
-    Ok(())
-}
-
-// The lines of the persons who are charged more than nothing.
-fn push_persons<K: PrintedKind, T: PrintedTally>(
-    heap: Global,
-    text: &mut Vec<u8>,
-    charges: &[T::Cost],
-) -> Result<(), AllocError>
-    ensures { OnOk result (text.new.items ≡ text.old.items ++ lines_from (person_line (print K.Notation.initial T.TallyLetter.initial K.PrintedKind.value_text T.PrintedTally.cost_text) (λ c. T.Tally.order c T.Joins.joining.empty)) 1 charges.now) }
-{
-    for (i, charge) in charges.iter().enumerate() {
-        let line = person_text::<K, T>(heap, i as u64 + 1, *charge)?;
-        text.extend_from_slice(line.as_slice())?;
+    for (i, member) in members.iter().enumerate() {
+        text.extend_from_slice(line(i as u64 + 1, *member)?.as_bytes())?;
     }
     Ok(())
 }
@@ -133,8 +112,8 @@ fn report_text<K: PrintedKind, T: PrintedTally>(
         sight.floor,
         sight.finished,
     )?;
-    push_items::<K, T>(heap, &mut text, values)?;
-    push_persons::<K, T>(heap, &mut text, report.charges)?;
+    push_lines(&mut text, values, |i, value| item_text::<K, T>(heap, i, value))?;
+    push_lines(&mut text, report.charges, |i, charge| person_text::<K, T>(heap, i, charge))?;
     Ok(text)
 }
 
@@ -147,8 +126,5 @@ pub fn write_report<K: PrintedKind, T: PrintedTally>(
 ) -> Result<usize, Fault>
     ensures { PutsOrWants (report_of (print K.Notation.initial T.TallyLetter.initial K.PrintedKind.value_text T.PrintedTally.cost_text) (λ c. T.Tally.order c T.Joins.joining.empty) report.now.number report.now.sight.now.values.items report.now.sight.now.cost report.now.sight.now.floor report.now.sight.now.finished report.now.charges.now) buffer.old buffer.new result }
 {
-    match report_text::<K, T>(heap, report) {
-        Ok(text) => put(buffer, text.as_slice()),
-        Err(_) => Err(Fault::Memory),
-    }
+    put(buffer, report_text::<K, T>(heap, report)?.as_slice())
 }

@@ -1,18 +1,7 @@
-// Texts that are put together from numbers and words.
-ghost use Rattle.std.specs.Prelude.{◌≡◌, ◌++◌, OnOk};
-ghost use Rattle.std.specs.Fmt.{decimal};
+// Texts that are put into buffers.
 ghost use Rattle.reports.specs.Lines.{Puts};
 
 use statements::fault::Fault;
-use std::alloc::{AllocError, Global};
-
-/// Appends the digits of a number.
-pub fn push_number(heap: Global, text: &mut Vec<u8>, number: u64) -> Result<(), AllocError>
-    ensures { OnOk result (text.new.items ≡ text.old.items ++ decimal number) }
-{
-    let digits = format!(in heap; "{number}")?;
-    text.extend_from_slice(digits.as_bytes())
-}
 
 /// Puts a text at the front of a buffer, whose rest stays, and answers how long the text is. Refused if the buffer is too short, which
 /// is then as it was.

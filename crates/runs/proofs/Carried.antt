@@ -12,13 +12,12 @@ use Rattle.rules.specs.declared.row.Row.{Row}
 use Rattle.rules.specs.Costs.{charge}
 use Rattle.rules.specs.Steps.{Rules, Position, advance, taken}
 use Rattle.rules.specs.Soundness.{rules}
-use Rattle.search.specs.Closed.{rows_of, position_of, rules_of}
+use Rattle.search.specs.Closed.{rows_of, position_of}
 use Rattle.statements.specs.declared.fault.Fault.{Fault}
 use Rattle.statements.specs.Faults.{first_fault}
 use Rattle.statements.specs.Searches.{search_checks, charge_checks}
 use Rattle.sheets.specs.declared.closed.Closed.{Closed}
 use Rattle.sheets.specs.Closed.{Searched}
-use Rattle.sheets.proofs.Searches.{same_rules}
 use Rattle.runs.specs.declared.call.Call.{Call}
 use Rattle.runs.specs.declared.call.Call.TheVariants.{Search, Show, Charge}
 use Rattle.runs.specs.declared.answer.Answer.{Answer}
@@ -27,26 +26,24 @@ use Rattle.runs.specs.declared.state.State.{State}
 use Rattle.runs.specs.declared.state.State.TheVariants.{Closing}
 use Rattle.runs.specs.Models.{Model, closed, verdict, next, after}
 use Rattle.runs.specs.Answers.{Showing, AnswersCall, AnswersScript}
-use Rattle.runs.specs.States.{closed_view, Views, Ready, Carries}
+use Rattle.runs.specs.States.{closed_view, Views, Carries}
 
 module _ {A B V C : Type 0} {k : Kinds A V} {t : Tallies B C} {g : Joinings B C} (m : Meaning V) (fit : ℕ → ℕ → ℕ → Bool) (values : ℕ → List ℕ → ℕ → V)
     (j : Joining Claim C) (at_most : C → C → Bool) where
-  pub carried_search : (s s' : Closed A B V C) (steps took : ℕ) → s.sheet.codes ≡ m.codes → first_fault (search_checks steps) ≡ None
-      → Searched (rules_of s.sheet fit j at_most) s.sheet s'.sheet steps took → (so_far asked : ℕ) → Carries {k = k} {t = t} {j = g} m values (rules m fit j at_most) (closed_view s so_far asked) (Search steps) (Closing s') (Took took)
-  carried_search s s' steps took e pass found so_far asked =
-      let is : Searched (rules m fit j at_most) s.sheet s'.sheet steps took = subst (λ (u : Rules C). Searched u s.sheet s'.sheet steps took) (same_rules m fit j at_most s.sheet e) found in
+  pub carried_search : (s s' : Closed A B V C k t g) (steps took : ℕ) → first_fault (search_checks steps) ≡ None
+      → Searched (rules m fit j at_most) s.sheet s'.sheet steps took → (so_far asked : ℕ) → Carries {k = k} {t = t} {j = g} m values (rules m fit j at_most) (closed_view s so_far asked) (Search steps) (Closing s') (Took took)
+  carried_search s s' steps took pass found so_far asked =
       let n = s.sheet.items in
       let rows = rows_of s.sheet in
       let at : Position = position_of s.sheet in
       let further : ℕ = taken (rules m fit j at_most) s.sheet.items (rows_of s.sheet) steps (position_of s.sheet) in
       let good : Model = closed s.sheet.items (rows_of s.sheet) (advance (rules m fit j at_most) s.sheet.items (rows_of s.sheet) steps (position_of s.sheet)) (so_far + further) (asked + steps) in
       let moved : good ≡ closed_view s' (so_far + further) (asked + steps) =
-      ap (λ (z : ℕ). closed z (rows_of s.sheet) (advance (rules m fit j at_most) s.sheet.items (rows_of s.sheet) steps (position_of s.sheet)) (so_far + further) (asked + steps)) (sym is.parts.same_items)
-      ∙ ap (λ (z : List Row). closed s'.sheet.items z (advance (rules m fit j at_most) s.sheet.items (rows_of s.sheet) steps (position_of s.sheet)) (so_far + further) (asked + steps)) (sym is.parts.same_rows)
-      ∙ ap (λ (z : Position). closed s'.sheet.items (rows_of s'.sheet) z (so_far + further) (asked + steps)) (sym is.moved) in
+      ap (λ (z : ℕ). closed z (rows_of s.sheet) (advance (rules m fit j at_most) s.sheet.items (rows_of s.sheet) steps (position_of s.sheet)) (so_far + further) (asked + steps)) (sym found.parts.same_items)
+      ∙ ap (λ (z : List Row). closed s'.sheet.items z (advance (rules m fit j at_most) s.sheet.items (rows_of s.sheet) steps (position_of s.sheet)) (so_far + further) (asked + steps)) (sym found.parts.same_rows)
+      ∙ ap (λ (z : Position). closed s'.sheet.items (rows_of s'.sheet) z (so_far + further) (asked + steps)) (sym found.moved) in
       record {
-        ready = is.parts.same_codes ∙ e;
-        answers = ap Took is.count ∙ ap (λ (o : Option Fault). verdict {A = Answer V C} o (Took further) Refused) (sym pass);
+        answers = ap Took found.count ∙ ap (λ (o : Option Fault). verdict {A = Answer V C} o (Took further) Refused) (sym pass);
         views = (
           so_far + further,
           asked + steps,
@@ -55,49 +52,46 @@ module _ {A B V C : Type 0} {k : Kinds A V} {t : Tallies B C} {g : Joinings B C}
       }
 
   -- a refused search
-  pub refused_search : (s s' : Closed A B V C) (steps : ℕ) (f : Fault) → s.sheet.codes ≡ m.codes → first_fault (search_checks steps) ≡ Some f → s'.sheet ≡ s.sheet
+  pub refused_search : (s s' : Closed A B V C k t g) (steps : ℕ) (f : Fault) → first_fault (search_checks steps) ≡ Some f → s' ≡ s
       → (so_far asked : ℕ) → Carries {k = k} {t = t} {j = g} m values (rules m fit j at_most) (closed_view s so_far asked) (Search steps) (Closing s') (Refused f)
-  refused_search s s' steps f e fail same so_far asked =
+  refused_search s s' steps f fail same so_far asked =
       let further : ℕ = taken (rules m fit j at_most) s.sheet.items (rows_of s.sheet) steps (position_of s.sheet) in
       let good : Model = closed s.sheet.items (rows_of s.sheet) (advance (rules m fit j at_most) s.sheet.items (rows_of s.sheet) steps (position_of s.sheet)) (so_far + further) (asked + steps) in
       record {
-        ready = ap (λ z. z.codes) same ∙ e;
         answers = ap (λ (o : Option Fault). verdict {A = Answer V C} o (Took further) Refused) (sym fail);
         views = (
           so_far,
           asked,
           ap (λ (o : Option Fault). verdict {A = Model} o good (λ _. closed_view s so_far asked)) fail
-              ∙ sym (ap (λ z. closed z.items (rows_of z) (position_of z) so_far asked) same),
+              ∙ sym (ap (λ (z : Closed A B V C k t g). closed_view z so_far asked) same),
         );
       }
 
-  pub carried_show : (s : Closed A B V C) (places : ℕ) (a : Answer V C) → s.sheet.codes ≡ m.codes
+  pub carried_show : (s : Closed A B V C k t g) (places : ℕ) (a : Answer V C)
       → Showing m values (rules m fit j at_most) s.sheet.items (rows_of s.sheet) (position_of s.sheet) places a → (so_far asked : ℕ) → Carries {k = k} {t = t} {j = g} m values (rules m fit j at_most) (closed_view s so_far asked) (Show places) (Closing s) a
-  carried_show s places a e shows so_far asked = record { ready = e; answers = shows; views = (so_far, asked, refl) }
+  carried_show s places a shows so_far asked = record { answers = shows; views = (so_far, asked, refl) }
 
-  pub carried_charge : (s : Closed A B V C) (p : ℕ) (c : C) → s.sheet.codes ≡ m.codes → first_fault (charge_checks p) ≡ None
+  pub carried_charge : (s : Closed A B V C k t g) (p : ℕ) (c : C) → first_fault (charge_checks p) ≡ None
       → c ≡ charge j (rows_of s.sheet) (entry (position_of s.sheet).incumbent) p → (so_far asked : ℕ) → Carries {k = k} {t = t} {j = g} m values (rules m fit j at_most) (closed_view s so_far asked) (Charge p) (Closing s) (Charged c)
-  carried_charge s p c e pass is so_far asked = record {
-    ready = e;
+  carried_charge s p c pass is so_far asked = record {
     answers = ap Charged is
         ∙ ap (λ (o : Option Fault). verdict {A = Answer V C} o (Charged (charge j (rows_of s.sheet) (entry (position_of s.sheet).incumbent) p)) Refused) (sym pass);
     views = (so_far, asked, refl);
   }
 
-  pub refused_charge : (s : Closed A B V C) (p : ℕ) (f : Fault) → s.sheet.codes ≡ m.codes → first_fault (charge_checks p) ≡ Some f → (so_far asked : ℕ) → Carries {k = k} {t = t} {j = g} m values (rules m fit j at_most) (closed_view s so_far asked) (Charge p) (Closing s) (Refused f)
-  refused_charge s p f e fail so_far asked = record {
-    ready = e;
+  pub refused_charge : (s : Closed A B V C k t g) (p : ℕ) (f : Fault) → first_fault (charge_checks p) ≡ Some f → (so_far asked : ℕ) → Carries {k = k} {t = t} {j = g} m values (rules m fit j at_most) (closed_view s so_far asked) (Charge p) (Closing s) (Refused f)
+  refused_charge s p f fail so_far asked = record {
     answers = ap (λ (o : Option Fault). verdict {A = Answer V C} o (Charged (charge j (rows_of s.sheet) (entry (position_of s.sheet).incumbent) p)) Refused) (sym fail);
     views = (so_far, asked, refl);
   }
 
   -- Of a closed sheet any model that it stands for will do.
-  pub any_view : (s : Closed A B V C) (c : Call) (state : State A B V C k t g) (a : Answer V C)
+  pub any_view : (s : Closed A B V C k t g) (c : Call) (state : State A B V C k t g) (a : Answer V C)
       → ((steps asked : ℕ) → Carries {k = k} {t = t} {j = g} m values (rules m fit j at_most) (closed_view s steps asked) c state a)
       → (x : Model) → Views {k = k} {t = t} {j = g} (Closing s) x → Carries {k = k} {t = t} {j = g} m values (rules m fit j at_most) x c state a
   any_view s c state a h x v = subst (λ (z : Model). Carries {k = k} {t = t} {j = g} m values (rules m fit j at_most) z c state a) (sym v.2) (h v.0 v.1)
 
-  pub any_result : {E : Type 0} (s : Closed A B V C) (c : Call) (u : Result (State A B V C k t g × Answer V C) E)
+  pub any_result : {E : Type 0} (s : Closed A B V C k t g) (c : Call) (u : Result (State A B V C k t g × Answer V C) E)
       → IfOk u (λ p. (steps asked : ℕ) → Carries m values (rules m fit j at_most) (closed_view s steps asked) c p.0 p.1)
       → IfOk u (λ p. (x : Model) → Views {k = k} {t = t} {j = g} (Closing s) x → Carries m values (rules m fit j at_most) x c p.0 p.1)
   any_result s c (Ok p) h = any_view s c p.0 p.1 h
@@ -120,7 +114,6 @@ module _ {V C : Type 0} (m : Meaning V) (values : ℕ → List ℕ → ℕ → V
 -- What a run keeps: after the calls so far the state stands for the model, and their answers are those of these calls.
 pub record Reaches {A B V C : Type 0} {k : Kinds A V} {t : Tallies B C} {j : Joinings B C} (m : Meaning V) (values : ℕ → List ℕ → ℕ → V) (r : Rules C)
     (x : Model) (calls : List Call) (answers : List (Answer V C)) (state : State A B V C k t j) : Type 0 where
-  pub ready : Ready m state
   pub views : Views state (after m r x calls)
   pub answered : AnswersScript m values r x calls answers
 
@@ -135,7 +128,6 @@ reaches_more m values r x script i d answers answers' a state state' l so_far on
     let more = take_more script i d l in
     let carries = one (after m r x (take i script)) so_far.views in
     record {
-      ready = carries.ready;
       views = subst (λ (z : Model). Views state' z) (sym (ap (after m r x) more ∙ after_push m values r x (take i script) (get_or script i d))) carries.views;
       answered = subst (λ (z : List Call). AnswersScript m values r x z answers') (sym more)
           (subst (λ (z : List (Answer _ _)). AnswersScript m values r x (take i script ++ (get_or script i d ∷ [])) z) (sym e)

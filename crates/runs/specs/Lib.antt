@@ -3,3 +3,4 @@ pub mod Models
 pub mod Answers
 pub mod Law
 pub mod States
+pub mod Told

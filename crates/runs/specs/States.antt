@@ -15,27 +15,21 @@ use Rattle.runs.specs.declared.state.State.TheVariants.{Drafting, Closing}
 use Rattle.runs.specs.Models.{Model, drafting, closed, next}
 use Rattle.runs.specs.Answers.{AnswersCall}
 
--- the model of a closed sheet with the steps taken and asked for since closing, which no code keeps
-abbrev pub closed_view : {A B V C : Type 0} → Closed A B V C → ℕ → ℕ → Model
-closed_view s steps asked = closed s.sheet.items (rows_of s.sheet) (position_of s.sheet) steps asked
-
 module _ {A B V C : Type 0} {k : Kinds A V} {t : Tallies B C} {j : Joinings B C} where
   -- the model of a draft
   abbrev pub draft_view : Draft A B V C k t j → Model
   draft_view d = drafting d.items (vec_items d.rows)
+
+  -- the model of a closed sheet with the steps taken and asked for since closing, which no code keeps
+  abbrev pub closed_view : Closed A B V C k t j → ℕ → ℕ → Model
+  closed_view s steps asked = closed s.sheet.items (rows_of s.sheet) (position_of s.sheet) steps asked
 
   -- The state stands for the model.
   abbrev pub Views : State A B V C k t j → Model → Type 0
   Views (Drafting d) x = x ≡ draft_view d
   Views (Closing s) x = (steps : ℕ) × (asked : ℕ) × (x ≡ closed_view s steps asked)
 
-  -- A closed sheet has the codes of its kind.
-  abbrev pub Ready : Meaning V → State A B V C k t j → Type 0
-  Ready m (Drafting d) = Unit {0}
-  Ready m (Closing s) = s.sheet.codes ≡ m.codes
-
 -- A call is carried out: it leaves a state and an answer as the model has it.
 pub record Carries {A B V C : Type 0} {k : Kinds A V} {t : Tallies B C} {j : Joinings B C} (m : Meaning V) (values : ℕ → List ℕ → ℕ → V) (r : Rules C) (x : Model) (c : Call) (state : State A B V C k t j) (a : Answer V C) : Type 0 where
-  pub ready : Ready m state
   pub answers : AnswersCall m values r x c a
   pub views : Views state (next m r x c)

@@ -1,4 +1,8 @@
 // What the calls of a script answer.
+ghost use Rattle.std.specs.Prelude.{◌≡◌};
+ghost use Rattle.std.specs.Option.{option_copied};
+ghost use Rattle.runs.specs.Told.{sight_in, charge_in};
+
 use statements::entry::Entry;
 use statements::fault::Fault;
 
@@ -30,4 +34,28 @@ pub enum Answer<V, C> {
     Shown(Sight<V, C>),
     /// The charge of a person.
     Charged(C),
+}
+
+impl<V, C> Answer<V, C> {
+    /// What the call shows, if it does.
+    pub fn sight(&self) -> Option<&Sight<V, C>>
+        ensures { option_copied result ≡ sight_in self.now }
+    {
+        match self {
+            Answer::Shown(sight) => Some(sight),
+            _ => None,
+        }
+    }
+}
+
+impl<V, C: Copy> Answer<V, C> {
+    /// The charge that the call tells, if it does.
+    pub fn charge(&self) -> Option<C>
+        ensures { result ≡ charge_in self.now }
+    {
+        match self {
+            Answer::Charged(charge) => Some(*charge),
+            _ => None,
+        }
+    }
 }

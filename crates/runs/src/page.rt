@@ -27,7 +27,6 @@ pub(crate) fn show_on<K: Kind, T: Tally>(
     closed: &Closed<K, T>,
     places: u8,
 ) -> Result<Answer<K::Value, T::Cost>, AllocError>
-    requires { closed.now.sheet.codes ≡ K.Kind.meaning.codes }
     ensures { IfOk result (Showing K.Kind.meaning K.Kind.values (rules K.Kind.meaning K.Kind.fit T.Joins.joining T.Tally.order) closed.now.sheet.items (rows_of closed.now.sheet) (position_of closed.now.sheet) places) }
 {
     let mut values = page_of::<K>(heap, places)?;

@@ -4,7 +4,7 @@ ghost use Rattle.points.specs.Scenarios.{entry as entry_of};
 ghost use Rattle.rules.specs.Costs.{charge as charge_of};
 ghost use Rattle.rules.specs.Steps.{opening};
 ghost use Rattle.rules.specs.Soundness.{rules};
-ghost use Rattle.search.specs.Closed.{rows_of, position_of, rules_of};
+ghost use Rattle.search.specs.Closed.{rows_of, position_of};
 ghost use Rattle.statements.specs.Drafts.{ByChecks};
 ghost use Rattle.statements.specs.Searches.{search_checks, show_checks, charge_checks};
 ghost use Rattle.sheets.specs.Closed.{HasParts, SoundSheet, Searched, Keeps, Shows, Settles};
@@ -23,6 +23,7 @@ pub struct Closed<K: Kind, T: Tally> {
     pub(crate) sheet: Sheet,
     pub(crate) ledger: Ledger<T::Cost>,
     pub(crate) of: PhantomData<(K, T)>,
+    ghost sound: { ∥ SoundSheet K.Kind.meaning (rules K.Kind.meaning K.Kind.fit T.Joins.joining T.Tally.order) sheet ∥₁ },
 }
 
 /// What a show answers: the cost of the values, the lower bound of the sheet, and whether the search has finished.
@@ -38,7 +39,6 @@ impl<K: Kind, T: Tally> Draft<K, T> {
     pub fn close(self) -> Closed<K, T>
         ensures parts { HasParts result.sheet self.items self.rows.items K.Kind.meaning.codes }
         ensures opens { position_of result.sheet ≡ opening self.items }
-        ensures sound { SoundSheet K.Kind.meaning (rules K.Kind.meaning K.Kind.fit T.Joins.joining T.Tally.order) result.sheet }
     {
         let Draft {
             items,
@@ -46,13 +46,10 @@ impl<K: Kind, T: Tally> Draft<K, T> {
             ledger,
             of: _,
         } = self;
-        match Sheet::closing(items, rows, K::count()) {
-            Ok(sheet) => Closed {
-                sheet,
-                ledger,
-                of: PhantomData,
-            },
-            Err(_) => unreachable(),
+        Closed {
+            sheet: Sheet::closing(items, rows, K::count()).unwrap(),
+            ledger,
+            of: PhantomData,
         }
     }
 }
@@ -85,8 +82,8 @@ impl<K: Kind, T: Tally> Closed<K, T> {
 
     /// Takes up to so many steps, at most 1,000,000, and fewer only if the search finishes. Answers how many it took.
     pub fn search(&mut self, steps: u32) -> Result<u32, Fault>
-        ensures answers { ByChecks (search_checks steps) result (λ t. Searched (rules_of self.old.sheet K.Kind.fit T.Joins.joining T.Tally.order) self.old.sheet self.new.sheet steps t) (self.new.sheet ≡ self.old.sheet) }
-        ensures keeps { SoundSheet K.Kind.meaning (rules K.Kind.meaning K.Kind.fit T.Joins.joining T.Tally.order) self.old.sheet → IfOk result (λ t. Keeps K.Kind.meaning (rules K.Kind.meaning K.Kind.fit T.Joins.joining T.Tally.order) self.old.sheet self.new.sheet steps t) }
+        ensures answers { ByChecks (search_checks steps) result (λ t. Searched (rules K.Kind.meaning K.Kind.fit T.Joins.joining T.Tally.order) self.old.sheet self.new.sheet steps t) (self.new ≡ self.old) }
+        ensures keeps { IfOk result (λ t. Keeps K.Kind.meaning (rules K.Kind.meaning K.Kind.fit T.Joins.joining T.Tally.order) self.old.sheet self.new.sheet steps t) }
     {
         if steps > 1000000 {
             return Err(Fault::Steps);
@@ -97,8 +94,8 @@ impl<K: Kind, T: Tally> Closed<K, T> {
     /// Writes the values of the incumbent, one for each item, to the front of the page; the rest of the page stays. Refused if the page
     /// is too short, and the page is then as it was.
     pub fn show(&self, page: &mut [K::Value]) -> Result<Shown<T::Cost>, Fault>
-        ensures answers { ByChecks (show_checks self.now.sheet.items (length page.old)) result (Shows K.Kind.values (rules_of self.now.sheet K.Kind.fit T.Joins.joining T.Tally.order) self.now.sheet page.old page.new) (page.new ≡ page.old) }
-        ensures settles { SoundSheet K.Kind.meaning (rules K.Kind.meaning K.Kind.fit T.Joins.joining T.Tally.order) self.now.sheet → IfOk result (Settles K.Kind.meaning (rules K.Kind.meaning K.Kind.fit T.Joins.joining T.Tally.order) self.now.sheet page.new) }
+        ensures answers { ByChecks (show_checks self.now.sheet.items (length page.old)) result (Shows K.Kind.values (rules K.Kind.meaning K.Kind.fit T.Joins.joining T.Tally.order) self.now.sheet page.old page.new) (page.new ≡ page.old) }
+        ensures settles { IfOk result (Settles K.Kind.meaning (rules K.Kind.meaning K.Kind.fit T.Joins.joining T.Tally.order) self.now.sheet page.new) }
     {
         if page.len() < self.sheet.items() as usize {
             return Err(Fault::Short);
@@ -115,7 +112,7 @@ impl<K: Kind, T: Tally> Closed<K, T> {
     pub fn charge(&self, person: u32) -> Result<T::Cost, Fault>
         ensures { ByChecks (charge_checks person) result (λ c. c ≡ charge_of T.Joins.joining (rows_of self.now.sheet) (entry_of (position_of self.now.sheet).incumbent) person) (Unit {0}) }
     {
-        if person < 1 || person > 20 {
+        if !(1..=20).contains(&person) {
             return Err(Fault::Person);
         }
         Ok(self.sheet.charge::<T>(person as u8))

@@ -3,7 +3,7 @@ ghost use Rattle.std.specs.Prelude.{◌≡◌, ◌+◌, ◌-◌, ◌<◌, true, 
 ghost use Rattle.statements.specs.declared.fault.Fault.TheVariants.{Memory};
 ghost use Rattle.rules.specs.Properly.{row_proper};
 ghost use Rattle.rules.specs.Rows.{with_struck, with_weight};
-ghost use Rattle.statements.specs.Drafts.{ByChecks, Unchanged, size_checks, enter_checks, row_of, numbered, strike_checks, reweigh_checks, look_checks, Says};
+ghost use Rattle.statements.specs.Drafts.{ByChecks, size_checks, enter_checks, row_of, numbered, strike_checks, reweigh_checks, look_checks, Says};
 
 use crate::held::Draft;
 use crate::table::Table;
@@ -23,12 +23,8 @@ impl<K: Kind, T: Tally> Draft<K, T> {
     pub fn new(heap: Global) -> Result<Draft<K, T>, Fault>
         ensures { MatchResult result (λ d. (d.items ≡ 1) × (d.rows.items ≡ [])) (λ f. f ≡ Memory) }
     {
-        let Ok(rows) = Vec::with_capacity(heap, 256) else {
-            return Err(Fault::Memory);
-        };
-        let Ok(ledger) = Ledger::new(heap, T::empty()) else {
-            return Err(Fault::Memory);
-        };
+        let rows = Vec::with_capacity(heap, 256)?;
+        let ledger = Ledger::new(heap, T::empty())?;
         Ok(Draft {
             items: 1,
             rows,
@@ -39,9 +35,9 @@ impl<K: Kind, T: Tally> Draft<K, T> {
 
     /// Sets the number of items, 1 to 12, and empties the list.
     pub fn size(&mut self, items: u32) -> Result<(), Fault>
-        ensures { ByChecks (size_checks items) result (λ _. (self.new.items ≡ items) × (self.new.rows.items ≡ [])) (Unchanged self.old.items self.old.rows.items self.new.items self.new.rows.items) }
+        ensures { ByChecks (size_checks items) result (λ _. (self.new.items ≡ items) × (self.new.rows.items ≡ [])) (self.new ≡ self.old) }
     {
-        if items < 1 || items > 12 {
+        if !(1..=12).contains(&items) {
             return Err(Fault::Size);
         }
         self.rows.clear();
@@ -51,7 +47,7 @@ impl<K: Kind, T: Tally> Draft<K, T> {
 
     /// Appends a statement and answers its number.
     pub fn enter(&mut self, entry: Entry) -> Result<u16, Fault>
-        ensures { ByChecks (enter_checks K.Kind.meaning.codes self.old.items self.old.rows.items entry) result (λ n. (n ≡ length self.old.rows.items + 1) × (self.new.items ≡ self.old.items) × (self.new.rows.items ≡ self.old.rows.items ++ row_of K.Kind.meaning.converse K.Kind.meaning.codes entry ∷ [])) (Unchanged self.old.items self.old.rows.items self.new.items self.new.rows.items) }
+        ensures { ByChecks (enter_checks K.Kind.meaning.codes self.old.items self.old.rows.items entry) result (λ n. (n ≡ length self.old.rows.items + 1) × (self.new.items ≡ self.old.items) × (self.new.rows.items ≡ self.old.rows.items ++ row_of K.Kind.meaning.converse K.Kind.meaning.codes entry ∷ [])) (self.new ≡ self.old) }
     {
         let row = entry.row::<K>(self.items)?;
         if self.rows.len() >= 256 {
@@ -65,15 +61,13 @@ impl<K: Kind, T: Tally> Draft<K, T> {
         requires { (row_proper self.old.items row ≡ true) × (length self.old.rows.items < 256) }
         ensures { (result ≡ length self.old.rows.items + 1) × (self.new.items ≡ self.old.items) × (self.new.rows.items ≡ self.old.rows.items ++ row ∷ []) }
     {
-        match self.rows.push(row) {
-            Ok(()) => self.rows.len() as u16,
-            Err(_) => unreachable(),
-        }
+        self.rows.push(row).unwrap();
+        self.rows.len() as u16
     }
 
     /// Strikes a statement: its mark is set, and no other row is touched.
     pub fn strike(&mut self, number: u32) -> Result<(), Fault>
-        ensures { ByChecks (strike_checks self.old.rows.items number) result (λ _. (self.new.items ≡ self.old.items) × (self.new.rows.items ≡ slice_set self.old.rows.items (number - 1) (with_struck (numbered self.old.rows.items number)))) (Unchanged self.old.items self.old.rows.items self.new.items self.new.rows.items) }
+        ensures { ByChecks (strike_checks self.old.rows.items number) result (λ _. (self.new.items ≡ self.old.items) × (self.new.rows.items ≡ slice_set self.old.rows.items (number - 1) (with_struck (numbered self.old.rows.items number)))) (self.new ≡ self.old) }
     {
         let i = self.find_live(number)?;
         self.rows.entry_mut(i).struck = true;
@@ -82,10 +76,10 @@ impl<K: Kind, T: Tally> Draft<K, T> {
 
     /// Gives a statement that has not been struck another weight.
     pub fn reweigh(&mut self, number: u32, weight: u32) -> Result<(), Fault>
-        ensures { ByChecks (reweigh_checks self.old.rows.items number weight) result (λ _. (self.new.items ≡ self.old.items) × (self.new.rows.items ≡ slice_set self.old.rows.items (number - 1) (with_weight (numbered self.old.rows.items number) weight))) (Unchanged self.old.items self.old.rows.items self.new.items self.new.rows.items) }
+        ensures { ByChecks (reweigh_checks self.old.rows.items number weight) result (λ _. (self.new.items ≡ self.old.items) × (self.new.rows.items ≡ slice_set self.old.rows.items (number - 1) (with_weight (numbered self.old.rows.items number) weight))) (self.new ≡ self.old) }
     {
         let at = self.find_live(number)?;
-        if weight < 1 || weight > 1000 {
+        if !(1..=1000).contains(&weight) {
             return Err(Fault::Weight);
         }
         self.rows.entry_mut(at).weight = weight as u16;
@@ -98,17 +92,15 @@ impl<K: Kind, T: Tally> Draft<K, T> {
     {
         let i = self.find(number)?;
         let row = self.rows[i];
-        match statement_of(&row) {
-            Some(statement) => Ok((statement, row.struck)),
-            None => unreachable(),
-        }
+        let statement = statement_of(&row).unwrap();
+        Ok((statement, row.struck))
     }
 
     /// Where the statement with a number stands in the list.
     fn find(&self, number: u32) -> Result<usize, Fault>
         ensures { ByChecks (look_checks self.now.rows.items number) result (λ i. (i ≡ number - 1) × (i < length self.now.rows.items)) (Unit {0}) }
     {
-        if number < 1 || number as usize > self.rows.len() {
+        if !(1..=self.rows.len()).contains(&(number as usize)) {
             return Err(Fault::Missing);
         }
         Ok(number as usize - 1)

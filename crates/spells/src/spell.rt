@@ -1,8 +1,10 @@
 // A spell, and the base relations of the interval algebra.
-ghost use Rattle.std.specs.Prelude.{◌≡◌};
+ghost use Rattle.std.specs.Prelude.{◌≡◌, ◌∷◌, ◌++◌, Some};
+ghost use Rattle.std.specs.Fmt.{decimal};
 ghost use Rattle.spells.specs.Relations.{related};
 
 use std::cmp::Ordering;
+use std::fmt;
 
 /// A stretch of time, from its start to its end. It is lawful where the start lies below the end.
 #[derive(Clone, Copy)]
@@ -47,5 +49,15 @@ pub fn relate(first: Spell, second: Spell) -> Relation
         (Ordering::Greater, Ordering::Equal) => Relation::Finishes,
         (Ordering::Less, Ordering::Equal) => Relation::FinishedBy,
         (Ordering::Equal, Ordering::Equal) => Relation::Equals,
+    }
+}
+
+/// The start, a space, the end.
+impl fmt::Display for Spell {
+    ghost output = { λ s. Some (decimal s.start ++ 32 ∷ decimal s.end) };
+
+    fn fmt<W: fmt::Write>(&self, f: &mut fmt::Formatter<W>) -> fmt::Result {
+        let Spell { start, end } = *self;
+        write!(f, "{start} {end}")
     }
 }

@@ -91,3 +91,7 @@ pub record Says (s : Statement) (r : Row) : Type 0 where
   pub weight : s.weight ≡ r.weight
   pub person : s.person ≡ r.person
   pub sworn : s.sworn ≡ r.sworn
+
+-- the entry that a statement stands for
+abbrev pub entered_as : Statement → Entry
+entered_as s = record { first = s.first; second = s.second; set = s.set; weight = s.weight; person = s.person; sworn = s.sworn }

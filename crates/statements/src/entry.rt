@@ -1,11 +1,12 @@
 // What is asked of a draft.
 ghost use Rattle.std.specs.Prelude.{◌≡◌, ◌≤◌, true, IfOk};
 ghost use Rattle.rules.specs.Properly.{row_proper};
-ghost use Rattle.statements.specs.Drafts.{ByChecks, entry_checks, row_of, Means};
+ghost use Rattle.statements.specs.Drafts.{ByChecks, entry_checks, row_of, Means, entered_as};
 
 use crate::codes::only_codes;
 use crate::converses::converses;
 use crate::fault::Fault;
+use crate::statement::Statement;
 use kinds::kind::Kind;
 use rules::row::Row;
 
@@ -36,7 +37,7 @@ impl Entry {
     fn check<K: Kind>(&self, items: u32) -> Result<(), Fault>
         ensures { ByChecks (entry_checks K.Kind.meaning.codes items self.now) result (λ _. Unit {0}) (Unit {0}) }
     {
-        if self.first < 1 || self.first > items || self.second < 1 || self.second > items {
+        if !(1..=items).contains(&self.first) || !(1..=items).contains(&self.second) {
             return Err(Fault::Item);
         }
         if self.first == self.second {
@@ -45,10 +46,10 @@ impl Entry {
         if !only_codes::<K>(self.set) {
             return Err(Fault::Code);
         }
-        if self.weight < 1 || self.weight > 1000 {
+        if !(1..=1000).contains(&self.weight) {
             return Err(Fault::Weight);
         }
-        if self.person < 1 || self.person > 20 {
+        if !(1..=20).contains(&self.person) {
             return Err(Fault::Person);
         }
         Ok(())
@@ -73,6 +74,22 @@ impl Entry {
             person: self.person as u8,
             sworn: self.sworn,
             struck: false,
+        }
+    }
+}
+
+/// The entry that a statement stands for.
+impl From<Statement> for Entry {
+    ghost from_gives = { λ s e. e ≡ entered_as s };
+
+    fn from(statement: Statement) -> Entry {
+        Entry {
+            first: u32::from(statement.first),
+            second: u32::from(statement.second),
+            set: statement.set,
+            weight: u32::from(statement.weight),
+            person: u32::from(statement.person),
+            sworn: statement.sworn,
         }
     }
 }

@@ -11,22 +11,15 @@ use rules::row::Row;
 pub fn statement_of(row: &Row) -> Option<Statement>
     ensures { MatchOption result (row_proper 255 row.now ≡ false) (λ s. (row_proper 255 row.now ≡ true) × Says s row.now) }
 {
-    if row.low < row.high
-        && row.high < 255
-        && 1 <= row.weight
-        && row.weight <= 1000
-        && 1 <= row.person
-        && row.person <= 20
-    {
-        Some(Statement {
-            first: row.low + 1,
-            second: row.high + 1,
-            set: row.set,
-            weight: row.weight,
-            person: row.person,
-            sworn: row.sworn,
-        })
-    } else {
-        None
+    if !row.is_proper(255) {
+        return None;
     }
+    Some(Statement {
+        first: row.low + 1,
+        second: row.high + 1,
+        set: row.set,
+        weight: row.weight,
+        person: row.person,
+        sworn: row.sworn,
+    })
 }

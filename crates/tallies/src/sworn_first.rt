@@ -1,6 +1,7 @@
 //! The tally that counts the broken sworn statements first, letter r.
 
-ghost use Rattle.std.specs.Prelude.{◌≡◌, ◌≤◌, length};
+ghost use Rattle.std.specs.Prelude.{◌≡◌, ◌≤◌, ◌∷◌, ◌++◌, Some, length};
+ghost use Rattle.std.specs.Fmt.{decimal};
 ghost use Rattle.tallies.specs.Joins.{joined, most_penalties};
 ghost use Rattle.tallies.specs.Sworn.{sworn_first, sworn_order, plain_sum, PartsAdd};
 ghost use Rattle.tallies.specs.SwornLemmas.{monoid_sworn, ranking_sworn};
@@ -8,6 +9,7 @@ ghost use Rattle.tallies.specs.SwornLemmas.{monoid_sworn, ranking_sworn};
 use crate::claim::Claim;
 use crate::cost::joined;
 use crate::tally::{Joins, Tally};
+use std::fmt;
 
 /// How many sworn statements are broken, and the weight of the other broken statements.
 #[derive(Clone, Copy, PartialEq, Eq)]
@@ -74,4 +76,14 @@ pub fn total(claims: &[Claim]) -> SwornCost
     ensures adds_exactly { PartsAdd }
 {
     joined::<SwornFirst>(claims)
+}
+
+/// The number of sworn statements, a slash, the weight of the others.
+impl fmt::Display for SwornCost {
+    ghost output = { λ c. Some (decimal c.sworn ++ 47 ∷ decimal c.weight) };
+
+    fn fmt<W: fmt::Write>(&self, f: &mut fmt::Formatter<W>) -> fmt::Result {
+        let SwornCost { sworn, weight } = *self;
+        write!(f, "{sworn}/{weight}")
+    }
 }

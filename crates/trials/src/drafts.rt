@@ -19,12 +19,9 @@ const GOOD: Entry = Entry {
     sworn: false,
 };
 
-/// The number of a refusal, or 0 where there is none.
-fn refusal<A: Copy>(answer: Result<A, Fault>) -> u8 {
-    match answer {
-        Ok(_) => 0,
-        Err(fault) => fault.number(),
-    }
+/// The number of a refusal, if there is one.
+fn refusal<A: Copy>(answer: Result<A, Fault>) -> Option<u8> {
+    answer.err().map(|fault| fault.number())
 }
 
 /// A draft of so many items.
@@ -36,41 +33,47 @@ fn draft_of(heap: Global, items: u32) -> Result<Sheet, Fault> {
 
 #[test]
 fn sizes(rt: HostRuntime) -> Result<(), Fail> {
-    let mut draft = Sheet::new(rt.alloc()).ok().ok_or("no memory")?;
+    let mut draft = Sheet::new(rt.alloc())?;
     assert_eq!(rt; draft.items(), 1);
-    for (items, number) in [(0, 1), (13, 1), (12, 0), (1, 0), (2, 0)] {
+    for (items, number) in [
+        (0, Some(1)),
+        (13, Some(1)),
+        (12, None),
+        (1, None),
+        (2, None),
+    ] {
         assert_eq!(rt; refusal(draft.size(items)), number, "at {items}");
     }
-    assert_eq!(rt; refusal(draft.enter(GOOD)), 0);
-    assert_eq!(rt; refusal(draft.size(13)), 1);
+    assert_eq!(rt; refusal(draft.enter(GOOD)), None);
+    assert_eq!(rt; refusal(draft.size(13)), Some(1));
     assert_eq!(rt; (draft.items(), draft.entered()), (2, 1));
-    assert_eq!(rt; refusal(draft.size(2)), 0);
+    assert_eq!(rt; refusal(draft.size(2)), None);
     assert_eq!(rt; draft.entered(), 0);
     Ok(())
 }
 
 #[test]
 fn entries(rt: HostRuntime) -> Result<(), Fail> {
-    let mut draft = draft_of(rt.alloc(), 2).ok().ok_or("no memory")?;
+    let mut draft = draft_of(rt.alloc(), 2)?;
     let table = [
-        (Entry { first: 0, ..GOOD }, 2),
-        (Entry { second: 3, ..GOOD }, 2),
+        (Entry { first: 0, ..GOOD }, Some(2)),
+        (Entry { second: 3, ..GOOD }, Some(2)),
         (
             Entry {
                 first: 3,
                 second: 3,
                 ..GOOD
             },
-            2,
+            Some(2),
         ),
-        (Entry { first: 2, ..GOOD }, 3),
+        (Entry { first: 2, ..GOOD }, Some(3)),
         (
             Entry {
                 set: 8,
                 weight: 0,
                 ..GOOD
             },
-            4,
+            Some(4),
         ),
         (
             Entry {
@@ -78,17 +81,17 @@ fn entries(rt: HostRuntime) -> Result<(), Fail> {
                 person: 0,
                 ..GOOD
             },
-            5,
+            Some(5),
         ),
         (
             Entry {
                 weight: 1001,
                 ..GOOD
             },
-            5,
+            Some(5),
         ),
-        (Entry { person: 0, ..GOOD }, 6),
-        (Entry { person: 21, ..GOOD }, 6),
+        (Entry { person: 0, ..GOOD }, Some(6)),
+        (Entry { person: 21, ..GOOD }, Some(6)),
         (
             Entry {
                 weight: 1000,
@@ -96,9 +99,9 @@ fn entries(rt: HostRuntime) -> Result<(), Fail> {
                 set: 7,
                 ..GOOD
             },
-            0,
+            None,
         ),
-        (Entry { set: 0, ..GOOD }, 0),
+        (Entry { set: 0, ..GOOD }, None),
     ];
     for (entry, number) in table {
         assert_eq!(rt; refusal(draft.enter(entry)), number);
@@ -109,22 +112,22 @@ fn entries(rt: HostRuntime) -> Result<(), Fail> {
 
 #[test]
 fn at_most_256(rt: HostRuntime) -> Result<(), Fail> {
-    let mut draft = draft_of(rt.alloc(), 2).ok().ok_or("no memory")?;
+    let mut draft = draft_of(rt.alloc(), 2)?;
     for number in 1..257u16 {
         assert!(rt; draft.enter(GOOD) == Ok(number));
     }
-    assert_eq!(rt; refusal(draft.enter(GOOD)), 7);
-    assert_eq!(rt; refusal(draft.enter(Entry { person: 21, ..GOOD })), 6);
-    assert_eq!(rt; refusal(draft.strike(256)), 0);
-    assert_eq!(rt; refusal(draft.enter(GOOD)), 7);
+    assert_eq!(rt; refusal(draft.enter(GOOD)), Some(7));
+    assert_eq!(rt; refusal(draft.enter(Entry { person: 21, ..GOOD })), Some(6));
+    assert_eq!(rt; refusal(draft.strike(256)), None);
+    assert_eq!(rt; refusal(draft.enter(GOOD)), Some(7));
     assert_eq!(rt; draft.entered(), 256);
     Ok(())
 }
 
 #[test]
 fn struck_ones(rt: HostRuntime) -> Result<(), Fail> {
-    let mut draft = draft_of(rt.alloc(), 2).ok().ok_or("no memory")?;
-    assert_eq!(rt; refusal(draft.strike(1)), 8);
+    let mut draft = draft_of(rt.alloc(), 2)?;
+    assert_eq!(rt; refusal(draft.strike(1)), Some(8));
     let turned = Entry {
         first: 2,
         second: 1,
@@ -132,9 +135,15 @@ fn struck_ones(rt: HostRuntime) -> Result<(), Fail> {
     };
     assert_eq!(rt;
         (refusal(draft.enter(turned)), refusal(draft.enter(GOOD))),
-        (0, 0)
+        (None, None)
     );
-    for (number, weight, refused) in [(0, 1, 8), (3, 0, 8), (2, 0, 5), (2, 1001, 5), (2, 1000, 0)] {
+    for (number, weight, refused) in [
+        (0, 1, Some(8)),
+        (3, 0, Some(8)),
+        (2, 0, Some(5)),
+        (2, 1001, Some(5)),
+        (2, 1000, None),
+    ] {
         assert_eq!(rt;
             refusal(draft.reweigh(number, weight)),
             refused,
@@ -143,16 +152,19 @@ fn struck_ones(rt: HostRuntime) -> Result<(), Fail> {
     }
     assert_eq!(rt;
         (refusal(draft.strike(2)), refusal(draft.strike(2))),
-        (0, 9)
+        (None, Some(9))
     );
-    assert_eq!(rt; refusal(draft.reweigh(2, 0)), 9);
-    assert_eq!(rt; (refusal(draft.look(0)), refusal(draft.look(3))), (8, 8));
-    let (first, is_struck) = draft.look(1).ok().ok_or("refused")?;
+    assert_eq!(rt; refusal(draft.reweigh(2, 0)), Some(9));
+    assert_eq!(rt;
+        (refusal(draft.look(0)), refusal(draft.look(3))),
+        (Some(8), Some(8))
+    );
+    let (first, is_struck) = draft.look(1)?;
     assert_eq!(rt;
         (first.first, first.second, first.set, is_struck),
         (1, 2, 4, false)
     );
-    let (second, is_struck) = draft.look(2).ok().ok_or("refused")?;
+    let (second, is_struck) = draft.look(2)?;
     assert_eq!(rt; (second.set, second.weight, is_struck), (2, 1000, true));
     Ok(())
 }

@@ -171,10 +171,10 @@ fn an_account(rt: HostRuntime) -> Result<(), Fail> {
     let heap = rt.alloc();
     let household = [(1, 2, 3, 1), (2, 3, 2, 1), (3, 1, 4, 2)];
     let mut buffer = [OLD; 81];
-    let draft = circle(heap, 3, &household).ok().ok_or("no memory")?;
+    let draft = circle(heap, 3, &household)?;
     assert!(rt; account(heap, 1, draft, &mut buffer[..79]) == Err(Fault::Short));
     assert!(rt; buffer == [OLD; 81]);
-    let draft = circle(heap, 3, &household).ok().ok_or("no memory")?;
+    let draft = circle(heap, 3, &household)?;
     assert!(rt; account(heap, 1, draft, &mut buffer) == Ok(80));
     assert!(rt; holds(&buffer, CIRCLE));
     Ok(())
@@ -187,9 +187,7 @@ const TWELVE: &str =
 #[test]
 fn an_account_left_open(rt: HostRuntime) -> Result<(), Fail> {
     let heap = rt.alloc();
-    let draft = circle(heap, 12, &[(10, 11, 1, 1), (11, 12, 1, 2), (12, 10, 1, 3)])
-        .ok()
-        .ok_or("no memory")?;
+    let draft = circle(heap, 12, &[(10, 11, 1, 1), (11, 12, 1, 2), (12, 10, 1, 3)])?;
     let mut buffer = [OLD; 4096];
     let length = TWELVE.len();
     assert!(rt; account(heap, 10, draft, &mut buffer) == Ok(length));

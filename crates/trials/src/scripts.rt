@@ -40,7 +40,7 @@ fn told(answer: &Answer<Value, Cost>) -> (char, u32) {
 #[test]
 fn a_script(rt: HostRuntime) -> Result<(), Fail> {
     let heap = rt.alloc();
-    let draft: Draft<Moments, ByWeight> = Draft::new(heap).ok().ok_or("no memory")?;
+    let draft: Draft<Moments, ByWeight> = Draft::new(heap)?;
     let script = [
         (Call::Search(1), ('-', 0)),
         (Call::Enter(EARLIER), ('r', 2)),

@@ -42,15 +42,15 @@ fn seen<T: Tally>(closed: &Closed<Moments, T>) -> Result<([u32; 4], Shown<T::Cos
 
 #[test]
 fn at_once(rt: HostRuntime) -> Result<(), Fail> {
-    let mut closed = circle(rt.alloc()).ok().ok_or("no memory")?.close();
-    let (values, opening) = seen(&closed).ok().ok_or("too short")?;
+    let mut closed = circle(rt.alloc())?.close();
+    let (values, opening) = seen(&closed)?;
     assert_eq!(rt;
         (values, opening.cost, opening.floor, opening.finished),
         ([0, 0, 0, 99], 9, 0, false)
     );
     assert!(rt; closed.search(1_000_001) == Err(Fault::Steps));
     assert!(rt; closed.search(1_000_000) == Ok(18));
-    let (values, found) = seen(&closed).ok().ok_or("too short")?;
+    let (values, found) = seen(&closed)?;
     assert_eq!(rt;
         (values, found.cost, found.floor, found.finished),
         ([1, 2, 0, 99], 2, 0, true)
@@ -69,13 +69,13 @@ fn at_once(rt: HostRuntime) -> Result<(), Fail> {
 
 #[test]
 fn in_slices(rt: HostRuntime) -> Result<(), Fail> {
-    let mut closed = circle(rt.alloc()).ok().ok_or("no memory")?.close();
+    let mut closed = circle(rt.alloc())?.close();
     let mut taken = 0u32;
     for steps in [0, 1, 2, 5, 7, 2, 9, 1] {
         taken = taken.saturating_add(closed.search(steps).unwrap_or(99));
     }
     assert_eq!(rt; taken, 18);
-    let (values, found) = seen(&closed).ok().ok_or("too short")?;
+    let (values, found) = seen(&closed)?;
     assert_eq!(rt;
         (values, found.cost, found.finished),
         ([1, 2, 0, 99], 2, true)
@@ -85,20 +85,20 @@ fn in_slices(rt: HostRuntime) -> Result<(), Fail> {
 
 #[test]
 fn reopened(rt: HostRuntime) -> Result<(), Fail> {
-    let mut closed = circle(rt.alloc()).ok().ok_or("no memory")?.close();
+    let mut closed = circle(rt.alloc())?.close();
     assert!(rt; closed.search(18) == Ok(18));
     let mut draft = closed.reopen();
     assert_eq!(rt; (draft.items(), draft.entered()), (3, 3));
     assert!(rt; draft.reweigh(2, 5) == Ok(()));
     assert!(rt; draft.strike(3) == Ok(()));
     let mut closed = draft.close();
-    let (values, opening) = seen(&closed).ok().ok_or("too short")?;
+    let (values, opening) = seen(&closed)?;
     assert_eq!(rt;
         (values, opening.cost, opening.finished),
         ([0, 0, 0, 99], 8, false)
     );
     assert!(rt; closed.search(1_000_000).is_ok());
-    let (values, found) = seen(&closed).ok().ok_or("too short")?;
+    let (values, found) = seen(&closed)?;
     assert_eq!(rt;
         (values, found.cost, found.finished),
         ([0, 1, 2, 99], 0, true)
@@ -108,7 +108,7 @@ fn reopened(rt: HostRuntime) -> Result<(), Fail> {
 
 #[test]
 fn short_pages(rt: HostRuntime) -> Result<(), Fail> {
-    let closed = circle(rt.alloc()).ok().ok_or("no memory")?.close();
+    let closed = circle(rt.alloc())?.close();
     let mut page = [NOWHERE; 2];
     assert!(rt; matches!(closed.show(&mut page), Err(Fault::Short)));
     assert_eq!(rt; (page[0].at, page[1].at), (99, 99));
@@ -117,10 +117,10 @@ fn short_pages(rt: HostRuntime) -> Result<(), Fail> {
 
 #[test]
 fn one_moment(rt: HostRuntime) -> Result<(), Fail> {
-    let draft: Draft<Moments, ByWeight> = Draft::new(rt.alloc()).ok().ok_or("no memory")?;
+    let draft: Draft<Moments, ByWeight> = Draft::new(rt.alloc())?;
     let mut closed = draft.close();
     assert!(rt; closed.search(1_000_000) == Ok(0));
-    let (values, found) = seen(&closed).ok().ok_or("too short")?;
+    let (values, found) = seen(&closed)?;
     assert_eq!(rt;
         (values, found.cost, found.finished),
         ([0, 99, 99, 99], 0, true)
@@ -130,7 +130,7 @@ fn one_moment(rt: HostRuntime) -> Result<(), Fail> {
 
 #[test]
 fn sworn_first(rt: HostRuntime) -> Result<(), Fail> {
-    let mut draft: Draft<Moments, SwornFirst> = Draft::new(rt.alloc()).ok().ok_or("no memory")?;
+    let mut draft: Draft<Moments, SwornFirst> = Draft::new(rt.alloc())?;
     assert!(rt; draft.size(2) == Ok(()));
     assert!(rt; draft.enter(entry(1, 2, 2, 900, 1)) == Ok(1));
     assert!(rt;
@@ -141,7 +141,7 @@ fn sworn_first(rt: HostRuntime) -> Result<(), Fail> {
     );
     let mut closed = draft.close();
     assert!(rt; closed.search(1_000_000) == Ok(2));
-    let (values, found) = seen(&closed).ok().ok_or("too short")?;
+    let (values, found) = seen(&closed)?;
     assert_eq!(rt; (values, found.finished), ([1, 0, 99, 99], true));
     assert!(rt;
         found.cost

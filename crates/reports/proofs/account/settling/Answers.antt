@@ -9,7 +9,7 @@ pub loop-person-preserved : goal.loop-person-preserved
 loop-person-preserved c =
     let i = c.loop-person.person - 1 in
     let count : c.loop-person.person + 1 - 1 ≡ i + 1 = omega arith in
-    c.in_ok-push-4.ensures.items ∙ ap (λ z. z ++ Charge c.loop-person.person ∷ []) c.loop-person.invariant
+    c.in_ok-push.ensures.items ∙ ap (λ z. z ++ Charge c.loop-person.person ∷ []) c.loop-person.invariant
     ∙ ap (λ z. Close ∷ Search c.args.steps ∷ Show 12 ∷ z) (sym (map-range_with_len_more Charge 1 i c.loop-person.person (omega arith)) ∙ ap (λ n. map Charge (range_with_len 1 n)) (sym count))
 
 pub returns : goal.returns

@@ -1,47 +1,31 @@
-use Rattle.std.proofs.Common.{refl}
+-- A closed sheet takes the last four calls, and leaves those of a draft unmade.
+use Rattle.std.proofs.Common.{refl, inl, inr}
 use Rattle.runs.proofs.Carried.{carried_search, refused_search, carried_show, carried_charge, refused_charge}
 use Rattle.runs.proofs.carry.on_closed.Goals as goal
+use Rattle.runs.proofs.carry.on_closed.Goals.{in-Search+in-Ok, in-Search+in-Err, in-Show+in_ok-answer-in-Show, in-Charge+in-Ok-charge, in-Charge+in-Err-charge, in-Size}
 
-pub returns-in-Ok : goal.returns-in-Ok
-returns-in-Ok g c = λ steps asked.
-    rw c.in-Search.is (carried_search g.K.Kind.meaning g.K.Kind.fit g.K.Kind.values g.T.Joins.joining g.T.Tally.order c.args.closed c.search.new.self c.in-Search.steps c.in-Ok.taken
-    c.requires c.in-Ok.ensures.answers.0 c.in-Ok.ensures.answers.1 steps asked)
-
-pub returns-in-Err : goal.returns-in-Err
-returns-in-Err g c = λ steps asked.
-    rw c.in-Search.is (refused_search g.K.Kind.meaning g.K.Kind.fit g.K.Kind.values g.T.Joins.joining g.T.Tally.order c.args.closed c.search.new.self c.in-Search.steps c.in-Err.fault
-    c.requires c.in-Err.ensures.answers.0 c.in-Err.ensures.answers.1 steps asked)
-
-pub returns-in_ok-answer-in-Show : goal.returns-in_ok-answer-in-Show
-returns-in_ok-answer-in-Show g c = λ steps asked.
-    rw c.in-Show.is (carried_show g.K.Kind.meaning g.K.Kind.fit g.K.Kind.values g.T.Joins.joining g.T.Tally.order c.args.closed c.in-Show.places c.in_ok-answer-in-Show.answer
-    c.requires c.in_ok-answer-in-Show.ensures steps asked)
-
-pub returns-in-Ok-charge : goal.returns-in-Ok-charge
-returns-in-Ok-charge g c = λ steps asked.
-    rw c.in-Charge.is (carried_charge g.K.Kind.meaning g.K.Kind.fit g.K.Kind.values g.T.Joins.joining g.T.Tally.order c.args.closed c.in-Charge.person c.in-Ok-charge.cost
-    c.requires c.in-Ok-charge.ensures.0 c.in-Ok-charge.ensures.1 steps asked)
-
-pub returns-in-Err-charge : goal.returns-in-Err-charge
-returns-in-Err-charge g c = λ steps asked.
-    rw c.in-Charge.is (refused_charge g.K.Kind.meaning g.K.Kind.fit g.K.Kind.values g.T.Joins.joining g.T.Tally.order c.args.closed c.in-Charge.person c.in-Err-charge.fault
-    c.requires c.in-Err-charge.ensures.0 steps asked)
-
--- A closed sheet takes no call of a draft.
-pub returns-in-Size : goal.returns-in-Size
-returns-in-Size g c = λ steps asked. rw c.in-Size.is (record { ready = c.requires; answers = refl; views = (steps, asked, refl) })
-
-pub returns-in-Enter : goal.returns-in-Enter
-returns-in-Enter g c = λ steps asked. rw c.in-Enter.is (record { ready = c.requires; answers = refl; views = (steps, asked, refl) })
-
-pub returns-in-Strike : goal.returns-in-Strike
-returns-in-Strike g c = λ steps asked. rw c.in-Strike.is (record { ready = c.requires; answers = refl; views = (steps, asked, refl) })
-
-pub returns-in-Reweigh : goal.returns-in-Reweigh
-returns-in-Reweigh g c = λ steps asked. rw c.in-Reweigh.is (record { ready = c.requires; answers = refl; views = (steps, asked, refl) })
-
-pub returns-in-Look : goal.returns-in-Look
-returns-in-Look g c = λ steps asked. rw c.in-Look.is (record { ready = c.requires; answers = refl; views = (steps, asked, refl) })
-
-pub returns-in-Close : goal.returns-in-Close
-returns-in-Close g c = λ steps asked. rw c.in-Close.is (record { ready = c.requires; answers = refl; views = (steps, asked, refl) })
+pub returns : goal.returns
+returns g c =
+    let kind = g.K.Kind in
+    let j = g.T.Joins.joining in
+    let order = g.T.Tally.order in
+    elim c.match-call.branch [
+      | in-Search+in-Ok w ↦ λ steps asked. rw (w.in-Search.is, w.closed-is, w.answer-is)
+          (carried_search kind.meaning kind.fit kind.values j order c.args.closed w.search.new.self w.in-Search.steps w.in-Ok.taken w.in-Ok.ensures.answers.0 w.in-Ok.ensures.answers.1 steps asked)
+      | in-Search+in-Err w ↦ λ steps asked. rw (w.in-Search.is, w.closed-is, w.answer-is)
+          (refused_search kind.meaning kind.fit kind.values j order c.args.closed w.search.new.self w.in-Search.steps w.in-Err.fault w.in-Err.ensures.answers.0 w.in-Err.ensures.answers.1 steps asked)
+      | in-Show+in_ok-answer-in-Show w ↦ λ steps asked. rw (w.in-Show.is, w.closed-is, w.answer-is)
+          (carried_show kind.meaning kind.fit kind.values j order c.args.closed w.in-Show.places w.in_ok-answer-in-Show.answer w.in_ok-answer-in-Show.ensures steps asked)
+      | in-Charge+in-Ok-charge w ↦ λ steps asked. rw (w.in-Charge.is, w.closed-is, w.answer-is)
+          (carried_charge kind.meaning kind.fit kind.values j order c.args.closed w.in-Charge.person w.in-Ok-charge.cost w.in-Ok-charge.ensures.0 w.in-Ok-charge.ensures.1 steps asked)
+      | in-Charge+in-Err-charge w ↦ λ steps asked. rw (w.in-Charge.is, w.closed-is, w.answer-is)
+          (refused_charge kind.meaning kind.fit kind.values j order c.args.closed w.in-Charge.person w.in-Err-charge.fault w.in-Err-charge.ensures.0 steps asked)
+      | in-Size w ↦ λ steps asked. rw (w.closed-is, w.answer-is) (elim w.in-Size.is [
+          | inl p ↦ rw p.1 (record { answers = refl; views = (steps, asked, refl) })
+          | inr (inl p) ↦ rw p.1 (record { answers = refl; views = (steps, asked, refl) })
+          | inr (inr (inl p)) ↦ rw p.1 (record { answers = refl; views = (steps, asked, refl) })
+          | inr (inr (inr (inl p))) ↦ rw p.2 (record { answers = refl; views = (steps, asked, refl) })
+          | inr (inr (inr (inr (inl p)))) ↦ rw p.1 (record { answers = refl; views = (steps, asked, refl) })
+          | inr (inr (inr (inr (inr p)))) ↦ rw p (record { answers = refl; views = (steps, asked, refl) })
+        ])
+    ]

@@ -17,7 +17,6 @@ returns-in-Close g c =
     let opens : closed sheet.items (rows_of sheet) (opening c.args.draft.items) 0 0 ≡ closed sheet.items (rows_of sheet) (position_of sheet) 0 0 =
     ap (λ (s : Position). closed sheet.items (rows_of sheet) s 0 0) (sym c.close.ensures.opens) in
     rw c.in-Close.is (record {
-      ready = c.close.ensures.sound.coded;
       answers = refl;
       views = (0, 0, items ∙ rows ∙ opens);
     })

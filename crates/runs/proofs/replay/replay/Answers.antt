@@ -6,7 +6,7 @@ use Rattle.runs.proofs.Lawful.{run_law}
 use Rattle.runs.proofs.replay.replay.Goals as goal
 
 pub loop-call-init : goal.loop-call-init
-loop-call-init g c = record { ready = tt; views = refl; answered = rw c.new-answers.ensures.items tt }
+loop-call-init g c = record { views = refl; answered = rw c.new-answers.ensures.items tt }
 
 pub loop-call-preserved : goal.loop-call-preserved
 loop-call-preserved g c =

@@ -1,10 +1,12 @@
 -- A show writes the values of the incumbent, and what it answers of them is settled.
-use Rattle.std.proofs.Common.{ℕ, ◌≤◌, List, length, get_or, arith, rules}
+use Rattle.std.proofs.Common.{◌≡◌, ℕ, ◌≤◌, ap, ◌∙◌, List, length, get_or, arith, rules}
 use Rattle.kinds.specs.Meaning.{Fitting, Realises}
 use Rattle.kinds.specs.Pages.{Written}
-use Rattle.search.specs.Closed.{incumbent_of}
+use Rattle.rules.specs.Costs.{sheet_bound}
+use Rattle.rules.specs.Steps.{finished}
+use Rattle.search.specs.Closed.{rows_of, position_of, incumbent_of}
 use Rattle.sheets.specs.declared.closed.Shown.{Shown}
-use Rattle.sheets.proofs.Searches.{same_scenario, shown_settles}
+use Rattle.sheets.proofs.Searches.{by_kind, sound_again, same_scenario, shown_settles}
 use Rattle.sheets.proofs.closed.Closed.show.Goals as goal
 
 pub returns : goal.returns
@@ -24,8 +26,13 @@ returns g c =
     same_scenario (λ (i : ℕ) (b : List ℕ). 1 ≤ i → i ≤ 12 → i ≤ length old → Fitting kind.meaning i b → (other : g.row.K-Value.Denot) → Realises kind.meaning i b (λ k. get_or new k other))
     c.items-2.result n c.incumbent.result.now a items_2 c.incumbent.ensures c.write.ensures.realised in
     let shown : Shown g.row.T-Cost.Denot = record { cost = c.cost.result; floor = c.bound.result; finished = c.finished.result } in
+    let j = g.T.Joins.joining in
+    let order = g.T.Tally.order in
+    let sheet = sound_again kind.meaning g.met.K.Kind.lawful kind.fit g.met.K.Kind.composes j g.met.T.Joins.monoid order g.met.T.Tally.ranks s c.args.self.now.sound in
+    let floor = c.bound.ensures ∙ ap (λ (b : ℕ). sheet_bound j order b n (rows_of s)) sheet.coded in
+    let done = by_kind kind.meaning kind.fit j order s sheet.coded (λ r. c.finished.result ≡ finished r n (position_of s)) c.finished.ensures in
     record {
-      answers = (search rules, record { written = written; cost_is = c.cost.ensures; floor_is = c.bound.ensures; finished_is = c.finished.ensures });
-      settles = λ sheet. shown_settles kind.meaning g.met.K.Kind.lawful kind.fit g.T.Joins.joining g.met.T.Joins.monoid g.T.Tally.order g.met.T.Tally.ranks s new shown sheet c.cost.ensures c.bound.ensures c.finished.ensures
+      answers = (search rules, record { written = written; cost_is = c.cost.ensures; floor_is = floor; finished_is = done });
+      settles = shown_settles kind.meaning g.met.K.Kind.lawful kind.fit j g.met.T.Joins.monoid order g.met.T.Tally.ranks s new shown sheet c.cost.ensures floor done
           (realised s.some s.few enough sheet.sound.fitting);
     }

@@ -1,5 +1,5 @@
 -- A draft stays sound when a row is given another weight.
-use Rattle.std.proofs.Common.{arith}
+use Rattle.std.proofs.Common.{arith, rules}
 use Rattle.rules.proofs.Properly.{proper_set, proper_read, sound_weight}
 use Rattle.sheets.proofs.held.Draft.reweigh.Goals as goal
 
@@ -10,5 +10,5 @@ invariant_of-self g c =
     let there = c.in_ok-at.ensures.1.1 in
     let row = c.entry_mut.result.now in
     let was = proper_read draft.items draft.rows.items _ row (omega arith) c.entry_mut.ensures.value draft.sound in
-    let is = sound_weight draft.items row c.args.weight (omega arith) (omega arith) was in
+    let is = sound_weight draft.items row c.args.weight (search rules) (search rules) was in
     record { some = draft.some; few = draft.few; room = draft.room; sound = proper_set draft.items draft.rows.items _ _ draft.sound is }

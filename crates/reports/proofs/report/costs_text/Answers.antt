@@ -1,0 +1,21 @@
+-- What is formatted has the texts of the costs in it.
+use Rattle.std.proofs.Common.{codes, ◌∙◌}
+use Rattle.std.proofs.lemmas.Result.{IfOk-weaker}
+use Rattle.reports.proofs.Lined.{five_texts}
+use Rattle.reports.proofs.report.costs_text.Goals as goal
+
+pub returns-then-finished : goal.returns-then-finished
+returns-then-finished g c =
+    let text = g.T.PrintedTally.cost_text in
+    let cost = g.met.T.PrintedTally.cost_printed c.args.cost in
+    let floor = g.met.T.PrintedTally.cost_printed c.args.floor in
+    rw c.if-finished.true (IfOk-weaker c.format.result _ _
+    (λ s h. rw (cost, floor) at h ∙ five_texts (codes " cost ") (text c.args.cost) (codes " floor ") (text c.args.floor) (codes " final\n")) c.format.ensures.ok)
+
+pub returns-else-finished : goal.returns-else-finished
+returns-else-finished g c =
+    let text = g.T.PrintedTally.cost_text in
+    let cost = g.met.T.PrintedTally.cost_printed c.args.cost in
+    let floor = g.met.T.PrintedTally.cost_printed c.args.floor in
+    rw c.if-finished.false (IfOk-weaker c.format-else-finished.result _ _
+    (λ s h. rw (cost, floor) at h ∙ five_texts (codes " cost ") (text c.args.cost) (codes " floor ") (text c.args.floor) (codes " open\n")) c.format-else-finished.ensures.ok)
