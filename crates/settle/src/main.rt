@@ -1,7 +1,6 @@
 // Reads a sheet file from standard input, settles each of its sheets, and prints what it found.
 #![tactic(auto)]
 
-use anyhow::anyhow;
 use dwellings::Dwellings;
 use files::calls::LARGEST;
 use files::fault::SheetFault;
@@ -13,6 +12,7 @@ use reports::fault::write_fault;
 use reports::printed::{PrintedKind, PrintedTally};
 use sheets::held::Draft;
 use spells::Spells;
+use statements::fault::Fault;
 use std::io;
 use std::io::{Read, Write};
 use std::process::ExitCode;
@@ -33,45 +33,49 @@ fn print_bytes(rt: HostRuntime, bytes: &[u8]) -> io::Result<()> {
     io::writer(&rt).write_all(bytes)
 }
 
-fn print_fault(rt: HostRuntime, fault: SheetFault) -> anyhow::Result<()> {
-    let mut buffer = [0u8; LONGEST_REPORT];
-    match write_fault(rt.alloc(), &fault, &mut buffer) {
-        Ok(length) => print_bytes(rt, &buffer[..length])?,
-        Err(refusal) => return Err(anyhow!("refused by {}", refusal.number())),
-    }
-    Ok(())
+/// Why a run ends before the end of its file.
+#[derive(Drop)]
+enum Stop {
+    /// The file is refused there.
+    Unfit(SheetFault),
+    /// A call is refused, or reading or printing fails.
+    Failed(anyhow::Error),
 }
 
-/// Loads and settles the sheet whose head waits, and prints the report; or answers why it cannot be loaded.
+impl From<SheetFault> for Stop {
+    fn from(fault: SheetFault) -> Stop {
+        Stop::Unfit(fault)
+    }
+}
+
+impl From<Fault> for Stop {
+    fn from(refusal: Fault) -> Stop {
+        Stop::Failed(anyhow::Error::from(refusal))
+    }
+}
+
+impl From<io::Error> for Stop {
+    fn from(error: io::Error) -> Stop {
+        Stop::Failed(anyhow::Error::from(error))
+    }
+}
+
+/// Loads and settles the sheet whose head waits, and prints the report.
 fn settle<K: PrintedKind, T: PrintedTally>(
     rt: HostRuntime,
     reader: &mut Reader,
     number: u64,
-) -> anyhow::Result<Option<SheetFault>> {
+) -> Result<(), Stop> {
     let heap = rt.alloc();
-    let mut draft = match Draft::<K, T>::new(heap) {
-        Ok(draft) => draft,
-        Err(refusal) => return Err(anyhow!("refused by {}", refusal.number())),
-    };
-    match reader.load(&mut draft) {
-        Ok(()) => {}
-        Err(fault) => return Ok(Some(fault)),
-    }
+    let mut draft = Draft::<K, T>::new(heap)?;
+    reader.load(&mut draft)?;
     let mut buffer = [0u8; LONGEST_REPORT];
-    match account(heap, number, draft, &mut buffer) {
-        Ok(length) => print_bytes(rt, &buffer[..length])?,
-        Err(refusal) => return Err(anyhow!("refused by {}", refusal.number())),
-    }
-    Ok(None)
+    let length = account(heap, number, draft, &mut buffer)?;
+    Ok(print_bytes(rt, &buffer[..length])?)
 }
 
 /// The sheet whose head waits, by the kind and the tally that the head names.
-fn settle_one(
-    rt: HostRuntime,
-    reader: &mut Reader,
-    head: Head,
-    number: u64,
-) -> anyhow::Result<Option<SheetFault>> {
+fn settle_one(rt: HostRuntime, reader: &mut Reader, head: Head, number: u64) -> Result<(), Stop> {
     match (head.kind, head.tally) {
         (HeadKind::Moments, HeadTally::ByWeight) => {
             settle::<Moments, ByWeight>(rt, reader, number)
@@ -92,29 +96,32 @@ fn settle_one(
     }
 }
 
-/// Settles the sheets of a file, and answers the fault that ends the run, if any.
-fn settle_all(rt: HostRuntime, file: &[u8]) -> anyhow::Result<Option<SheetFault>> {
+/// Settles the sheets of a file.
+fn settle_all(rt: HostRuntime, file: &[u8]) -> Result<(), Stop> {
     let mut reader = Reader::new(file);
     for number in 1..u64::MAX {
-        let head = match reader.next_head() {
-            Ok(Some(head)) => head,
-            Ok(None) => return Ok(None),
-            Err(fault) => return Ok(Some(fault)),
+        let Some(head) = reader.next_head()? else {
+            break;
         };
-        if let Some(fault) = settle_one(rt, &mut reader, head, number)? {
-            return Ok(Some(fault));
-        }
+        settle_one(rt, &mut reader, head, number)?;
     }
-    Ok(None)
+    Ok(())
+}
+
+fn print_fault(rt: HostRuntime, fault: SheetFault) -> anyhow::Result<()> {
+    let mut buffer = [0u8; LONGEST_REPORT];
+    let length = write_fault(rt.alloc(), &fault, &mut buffer)?;
+    Ok(print_bytes(rt, &buffer[..length])?)
 }
 
 fn main(rt: HostRuntime) -> anyhow::Result<ExitCode> {
     let file = read_file(rt)?;
-    match settle_all(rt, file.as_slice())? {
-        Some(fault) => {
+    match settle_all(rt, file.as_slice()) {
+        Ok(()) => Ok(ExitCode::SUCCESS),
+        Err(Stop::Unfit(fault)) => {
             print_fault(rt, fault)?;
             Ok(ExitCode::FAILURE)
         }
-        None => Ok(ExitCode::SUCCESS),
+        Err(Stop::Failed(error)) => Err(error),
     }
 }
