@@ -1,10 +1,9 @@
 -- Dwellings are one mark on each of two axes.
-use Rattle.std.specs.Prelude.{◌≡◌, ℕ, zero, suc, ◌<◌, Bool, T, nat_lt, refl}
+use Rattle.std.specs.Prelude.{◌≡◌, ℕ, zero, suc, ◌<◌, Bool, ◌&&◌, T, nat_lt, refl}
 use Rattle.std.proofs.Common.{arith, not-suc-le-zero, le_of_suc-le-suc}
 use Prim.Native.Nat.{Ordering, compare}
 use Rattle.std.proofs.lemmas.Bool.{ltb-true}
 use Rattle.points.specs.Points.{Says, same as alike}
-use Rattle.points.specs.Tests.{both}
 use Rattle.points.proofs.Finite.{both_left, both_right, true_from, every, every_at}
 use Rattle.points.proofs.Compare.{said, says, same_eq, compare_self}
 use Rattle.dwellings.specs.declared.Dwelling.{Dwelling}
@@ -40,26 +39,26 @@ of_axes north_west u v h = h
 
 -- the code of two comparisons has them
 abbrev told : Ordering → Ordering → Bool
-told o p = both (nat_lt (code o p) 9) (both (alike o (eastward (coded (code o p)))) (alike p (northward (coded (code o p)))))
+told o p = nat_lt (code o p) 9 && (alike o (eastward (coded (code o p))) && alike p (northward (coded (code o p))))
 
 all_told : (o p : Ordering) → T (told o p)
 all_told o p = every_at (λ p. told o p) (every_at (λ o. every (λ p. told o p)) tt o) p
 
 code_below : (o p : Ordering) → code o p < 9
 code_below o p =
-    ltb-true (code o p) 9 (true_from (nat_lt (code o p) 9) (both_left (nat_lt (code o p) 9) (both (alike o (eastward (coded (code o p)))) (alike p (northward (coded (code o p))))) (all_told o p)))
+    ltb-true (code o p) 9 (true_from (nat_lt (code o p) 9) (both_left (nat_lt (code o p) 9) (alike o (eastward (coded (code o p))) && alike p (northward (coded (code o p)))) (all_told o p)))
 
 code_eastward : (o p : Ordering) → o ≡ eastward (coded (code o p))
 code_eastward o p =
     same_eq o (eastward (coded (code o p)))
     (both_left (alike o (eastward (coded (code o p)))) (alike p (northward (coded (code o p))))
-    (both_right (nat_lt (code o p) 9) (both (alike o (eastward (coded (code o p)))) (alike p (northward (coded (code o p))))) (all_told o p)))
+    (both_right (nat_lt (code o p) 9) (alike o (eastward (coded (code o p))) && alike p (northward (coded (code o p)))) (all_told o p)))
 
 code_northward : (o p : Ordering) → p ≡ northward (coded (code o p))
 code_northward o p =
     same_eq p (northward (coded (code o p)))
     (both_right (alike o (eastward (coded (code o p)))) (alike p (northward (coded (code o p))))
-    (both_right (nat_lt (code o p) 9) (both (alike o (eastward (coded (code o p)))) (alike p (northward (coded (code o p))))) (all_told o p)))
+    (both_right (nat_lt (code o p) 9) (alike o (eastward (coded (code o p))) && alike p (northward (coded (code o p)))) (all_told o p)))
 
 abbrev number : Dwelling → ℕ → ℕ → ℕ
 number v zero s = v.east

@@ -1,9 +1,9 @@
 -- What is proved once for every kind that is marks on axes: its laws, its fitting triples, and that counting realises a scenario.
-use Rattle.std.proofs.Common.{◌≡◌, ℕ, zero, suc, ◌<◌, ◌≤◌, Bool, true, false, T, eqb, ltb, ◌⊎◌, List, [], ◌∷◌, Decides, sym, refl, ap, ◌∙◌, subst, ap₂, inl, inr, arith, eqb→eq}
+use Rattle.std.proofs.Common.{◌≡◌, ℕ, zero, suc, ◌<◌, ◌≤◌, Bool, ◌&&◌, true, false, T, eqb, ltb, ◌⊎◌, List, [], ◌∷◌, Decides, sym, refl, ap, ◌∙◌, subst, ap₂, inl, inr, arith, eqb→eq}
 use Prim.Native.Nat.{Ordering, compare}
 use Rattle.std.proofs.lemmas.Bool.{ltb-true, lt-ltb}
 use Rattle.points.specs.Points.{converse as turned_round, same, compose}
-use Rattle.points.specs.Tests.{both, upto}
+use Rattle.points.specs.Tests.{upto}
 use Rattle.points.specs.Scenarios.{entry}
 use Rattle.points.specs.Sets.{has}
 use Rattle.points.specs.Marks.{in_scenario}
@@ -35,7 +35,7 @@ sides_from l p h =
 -- Under a code, two marks of one item and one of another fit.
 abbrev pub item_test : Layout → Bool
 item_test l = upto l.codes (λ c. sides l (λ a s t. upto l.marks (λ r.
-    both (compose (compare s t) (l.side a c t r) (l.side a c s r)) (compose (l.side a c s t) (compare t r) (l.side a c s r)))))
+    compose (compare s t) (l.side a c t r) (l.side a c s r) && compose (l.side a c s t) (compare t r) (l.side a c s r))))
 
 -- Code 0 has the marks of an item and of itself.
 abbrev pub self_test : Layout → Bool
@@ -43,7 +43,7 @@ self_test l = sides l (λ a s t. same (compare s t) (l.side a 0 s t))
 
 -- The converse has the sides turned round.
 abbrev pub converse_test : Layout → (ℕ → ℕ) → Bool
-converse_test l conv = upto l.codes (λ c. both (ltb (conv c) l.codes) (sides l (λ a s t. same (turned_round (l.side a c t s)) (l.side a (conv c) s t))))
+converse_test l conv = upto l.codes (λ c. ltb (conv c) l.codes && sides l (λ a s t. same (turned_round (l.side a c t s)) (l.side a (conv c) s t)))
 
 -- Two codes with the same sides are the same.
 abbrev pub apart_test : Layout → Bool
@@ -110,8 +110,8 @@ module _ {V : Type 0} (m : Meaning V) (l : Layout) (f : Frame m l) where
   turned_code : (c : ℕ) → c < l.codes → (m.converse c < l.codes) × Sides l (λ a s t. turned_round (l.side a c t s) ≡ l.side a (m.converse c) s t)
   turned_code c hc =
       let p : ℕ → ℕ → ℕ → Bool = λ a s t. same (turned_round (l.side a c t s)) (l.side a (m.converse c) s t) in
-      let here : T (both (ltb (m.converse c) l.codes) (sides l p)) =
-      upto_at l.codes (λ c. both (ltb (m.converse c) l.codes) (sides l (λ a s t. same (turned_round (l.side a c t s)) (l.side a (m.converse c) s t)))) f.converses c hc in (
+      let here : T (ltb (m.converse c) l.codes && sides l p) =
+      upto_at l.codes (λ c. ltb (m.converse c) l.codes && sides l (λ a s t. same (turned_round (l.side a c t s)) (l.side a (m.converse c) s t))) f.converses c hc in (
         ltb-true (m.converse c) l.codes (true_from (ltb (m.converse c) l.codes) (both_left (ltb (m.converse c) l.codes) (sides l p) here)),
         λ a s t ha hs ht. same_eq (turned_round (l.side a c t s)) (l.side a (m.converse c) s t) (sides_at l p (both_right (ltb (m.converse c) l.codes) (sides l p) here) a s t ha hs ht),
       )
@@ -156,8 +156,8 @@ module _ {V : Type 0} (m : Meaning V) (l : Layout) (f : Frame m l) where
       subst (λ (w : Ordering). T (compose w (l.side a d t r) (l.side a e s r))) (p.1 a s t ha hs ht)
       (subst (λ (w : Ordering). T (compose (compare x y) w (l.side a e s r))) (q.1 a t r ha ht hr)
       (subst (λ (w : Ordering). T (compose (compare x y) (compare y z) w)) (o.1 a s r ha hs hr) (compose_compare x y z))))) in
-      both_from (ltb c l.codes) (both (ltb d l.codes) (both (ltb e l.codes) (marks_fit l c d e))) (holds_from (ltb c l.codes) (lt-ltb c l.codes p.0))
-      (both_from (ltb d l.codes) (both (ltb e l.codes) (marks_fit l c d e)) (holds_from (ltb d l.codes) (lt-ltb d l.codes q.0))
+      both_from (ltb c l.codes) (ltb d l.codes && (ltb e l.codes && marks_fit l c d e)) (holds_from (ltb c l.codes) (lt-ltb c l.codes p.0))
+      (both_from (ltb d l.codes) (ltb e l.codes && marks_fit l c d e) (holds_from (ltb d l.codes) (lt-ltb d l.codes q.0))
       (both_from (ltb e l.codes) (marks_fit l c d e) (holds_from (ltb e l.codes) (lt-ltb e l.codes o.0)) inner))
 
   -- what a test that passes tells
@@ -169,11 +169,11 @@ module _ {V : Type 0} (m : Meaning V) (l : Layout) (f : Frame m l) where
 
   fit_tells : (c d e : ℕ) → T (fit l c d e) → Fit c d e
   fit_tells c d e h =
-      let a : T (both (ltb d l.codes) (both (ltb e l.codes) (marks_fit l c d e))) = both_right (ltb c l.codes) (both (ltb d l.codes) (both (ltb e l.codes) (marks_fit l c d e))) h in
-      let b : T (both (ltb e l.codes) (marks_fit l c d e)) = both_right (ltb d l.codes) (both (ltb e l.codes) (marks_fit l c d e)) a in
+      let a : T (ltb d l.codes && (ltb e l.codes && marks_fit l c d e)) = both_right (ltb c l.codes) (ltb d l.codes && (ltb e l.codes && marks_fit l c d e)) h in
+      let b : T (ltb e l.codes && marks_fit l c d e) = both_right (ltb d l.codes) (ltb e l.codes && marks_fit l c d e) a in
       record {
-        c_code = ltb-true c l.codes (true_from (ltb c l.codes) (both_left (ltb c l.codes) (both (ltb d l.codes) (both (ltb e l.codes) (marks_fit l c d e))) h));
-        d_code = ltb-true d l.codes (true_from (ltb d l.codes) (both_left (ltb d l.codes) (both (ltb e l.codes) (marks_fit l c d e)) a));
+        c_code = ltb-true c l.codes (true_from (ltb c l.codes) (both_left (ltb c l.codes) (ltb d l.codes && (ltb e l.codes && marks_fit l c d e)) h));
+        d_code = ltb-true d l.codes (true_from (ltb d l.codes) (both_left (ltb d l.codes) (ltb e l.codes && marks_fit l c d e) a));
         e_code = ltb-true e l.codes (true_from (ltb e l.codes) (both_left (ltb e l.codes) (marks_fit l c d e) b));
         marks = λ x s t r hx hs ht hr.
             upto_at l.marks (λ r. compose (l.side x c s t) (l.side x d t r) (l.side x e s r))
@@ -182,12 +182,12 @@ module _ {V : Type 0} (m : Meaning V) (l : Layout) (f : Frame m l) where
 
   -- two marks of one item and one of another fit under a code
   item_fits : (c : ℕ) → c < l.codes → (a s t r : ℕ) → a < l.axes → s < l.marks → t < l.marks → r < l.marks →
-      T (both (compose (compare s t) (l.side a c t r) (l.side a c s r)) (compose (l.side a c s t) (compare t r) (l.side a c s r)))
+      T (compose (compare s t) (l.side a c t r) (l.side a c s r) && compose (l.side a c s t) (compare t r) (l.side a c s r))
   item_fits c hc a s t r ha hs ht hr =
-      upto_at l.marks (λ r. both (compose (compare s t) (l.side a c t r) (l.side a c s r)) (compose (l.side a c s t) (compare t r) (l.side a c s r)))
-      (sides_at l (λ a s t. upto l.marks (λ r. both (compose (compare s t) (l.side a c t r) (l.side a c s r)) (compose (l.side a c s t) (compare t r) (l.side a c s r))))
+      upto_at l.marks (λ r. compose (compare s t) (l.side a c t r) (l.side a c s r) && compose (l.side a c s t) (compare t r) (l.side a c s r))
+      (sides_at l (λ a s t. upto l.marks (λ r. compose (compare s t) (l.side a c t r) (l.side a c s r) && compose (l.side a c s t) (compare t r) (l.side a c s r)))
       (upto_at l.codes (λ c. sides l (λ a s t. upto l.marks (λ r.
-      both (compose (compare s t) (l.side a c t r) (l.side a c s r)) (compose (l.side a c s t) (compare t r) (l.side a c s r))))) f.items c hc) a s t ha hs ht) r hr
+      compose (compare s t) (l.side a c t r) (l.side a c s r) && compose (l.side a c s t) (compare t r) (l.side a c s r)))) f.items c hc) a s t ha hs ht) r hr
 
   -- the value of an item: its marks counted on each axis
   abbrev pub counted : ℕ → List ℕ → ℕ → V
@@ -306,11 +306,11 @@ decides_as {P} a b e d = subst (λ (t : Bool). Decides t P) (sym e) d
 -- a number that is no code fits in no triple
 no_code : (l : Layout) (c d e : ℕ) → (Codes l c d e → ⊥) → fit l c d e ≡ false
 no_code l c d e never = false_from (fit l c d e) (λ t.
-    let a = both_right (ltb c l.codes) (both (ltb d l.codes) (both (ltb e l.codes) (marks_fit l c d e))) t in
-    let b = both_right (ltb d l.codes) (both (ltb e l.codes) (marks_fit l c d e)) a in
+    let a = both_right (ltb c l.codes) (ltb d l.codes && (ltb e l.codes && marks_fit l c d e)) t in
+    let b = both_right (ltb d l.codes) (ltb e l.codes && marks_fit l c d e) a in
     never (
-      ltb-true c l.codes (true_from (ltb c l.codes) (both_left (ltb c l.codes) (both (ltb d l.codes) (both (ltb e l.codes) (marks_fit l c d e))) t)),
-      ltb-true d l.codes (true_from (ltb d l.codes) (both_left (ltb d l.codes) (both (ltb e l.codes) (marks_fit l c d e)) a)),
+      ltb-true c l.codes (true_from (ltb c l.codes) (both_left (ltb c l.codes) (ltb d l.codes && (ltb e l.codes && marks_fit l c d e)) t)),
+      ltb-true d l.codes (true_from (ltb d l.codes) (both_left (ltb d l.codes) (ltb e l.codes && marks_fit l c d e) a)),
       ltb-true e l.codes (true_from (ltb e l.codes) (both_left (ltb e l.codes) (marks_fit l c d e) b)),
     ))
   where

@@ -1,8 +1,8 @@
 -- Kinds that are marks on axes: a moment is one mark on one axis, a spell two marks on one axis, a dwelling one mark on each of two.
-use Rattle.std.specs.Prelude.{ℕ, Bool, List, nat_lt}
+use Rattle.std.specs.Prelude.{ℕ, Bool, ◌&&◌, List, nat_lt}
 use Prim.Native.Nat.{Ordering}
 use Rattle.points.specs.Points.{compose}
-use Rattle.points.specs.Tests.{both, upto}
+use Rattle.points.specs.Tests.{upto}
 use Rattle.points.specs.Marks.{mark_rank}
 
 pub record Layout : Type 0 where
@@ -20,7 +20,7 @@ marks_fit l c d e = upto l.axes (λ a. upto l.marks (λ s. upto l.marks (λ t. u
 
 -- The test of a triple: three codes whose marks fit.
 abbrev pub fit : Layout → ℕ → ℕ → ℕ → Bool
-fit l c d e = both (nat_lt c l.codes) (both (nat_lt d l.codes) (both (nat_lt e l.codes) (marks_fit l c d e)))
+fit l c d e = nat_lt c l.codes && (nat_lt d l.codes && (nat_lt e l.codes && marks_fit l c d e))
 
 -- How many marks of n items on the axis a lie strictly before mark s of item i.
 abbrev pub rank_on : Layout → ℕ → List ℕ → ℕ → ℕ → ℕ → ℕ

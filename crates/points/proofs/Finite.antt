@@ -1,8 +1,8 @@
 -- Tests over all numbers below a bound and over all orderings, which the checker computes, and what they tell of each.
-use Rattle.std.proofs.Common.{◌≡◌, ℕ, zero, suc, ◌<◌, Bool, true, false, T, sym, refl, subst, inl, inr, not-suc-le-zero, arith}
+use Rattle.std.proofs.Common.{◌≡◌, ℕ, zero, suc, ◌<◌, Bool, ◌&&◌, true, false, T, sym, refl, subst, inl, inr, not-suc-le-zero, arith}
 use Prim.Native.Nat.{Ordering}
 use Rattle.std.proofs.lemmas.Bool.{cases_order}
-use Rattle.points.specs.Tests.{both, upto}
+use Rattle.points.specs.Tests.{upto}
 
 abbrev pub implies : Bool → Bool → Bool
 implies true b = b
@@ -14,15 +14,15 @@ alike true false = false
 alike false true = false
 alike false false = true
 
-pub both_left : (a b : Bool) → T (both a b) → T a
+pub both_left : (a b : Bool) → T (a && b) → T a
 both_left true b t = tt
 both_left false b t = t
 
-pub both_right : (a b : Bool) → T (both a b) → T b
+pub both_right : (a b : Bool) → T (a && b) → T b
 both_right true b t = t
 both_right false b t = absurd t
 
-pub both_from : (a b : Bool) → T a → T b → T (both a b)
+pub both_from : (a b : Bool) → T a → T b → T (a && b)
 both_from true b p q = q
 both_from false b p q = p
 
@@ -60,9 +60,9 @@ upto_from (suc n) f h = both_from (f n) (upto n f) (h n (omega arith)) (upto_fro
 
 -- every ordering passes
 abbrev pub every : (Ordering → Bool) → Bool
-every f = both (f Ordering.lt) (both (f Ordering.eq) (f Ordering.gt))
+every f = f Ordering.lt && (f Ordering.eq && f Ordering.gt)
 
 pub every_at : (f : Ordering → Bool) → T (every f) → (o : Ordering) → T (f o)
-every_at f t Ordering.lt = both_left (f Ordering.lt) (both (f Ordering.eq) (f Ordering.gt)) t
-every_at f t Ordering.eq = both_left (f Ordering.eq) (f Ordering.gt) (both_right (f Ordering.lt) (both (f Ordering.eq) (f Ordering.gt)) t)
-every_at f t Ordering.gt = both_right (f Ordering.eq) (f Ordering.gt) (both_right (f Ordering.lt) (both (f Ordering.eq) (f Ordering.gt)) t)
+every_at f t Ordering.lt = both_left (f Ordering.lt) (f Ordering.eq && f Ordering.gt) t
+every_at f t Ordering.eq = both_left (f Ordering.eq) (f Ordering.gt) (both_right (f Ordering.lt) (f Ordering.eq && f Ordering.gt) t)
+every_at f t Ordering.gt = both_right (f Ordering.eq) (f Ordering.gt) (both_right (f Ordering.lt) (f Ordering.eq && f Ordering.gt) t)

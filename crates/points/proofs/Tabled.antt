@@ -1,11 +1,11 @@
 -- Tables of sets of base relations, whose rule is proved over the whole table by one test that the checker computes.
-use Rattle.std.proofs.Common.{◌≡◌, ℕ, zero, suc, ◌+◌, ◌%◌, ◌^◌, ◌<◌, ◌≤◌, Bool, false, cond, T, eqb, ltb, List, [], ◌∷◌, length, get_or, sym, refl, ap, ◌∙◌, inl, inr, arith, pow_mono, not-suc-le-zero, le_of_suc-le-suc}
+use Rattle.std.proofs.Common.{◌≡◌, ℕ, zero, suc, ◌+◌, ◌%◌, ◌^◌, ◌<◌, ◌≤◌, Bool, ◌&&◌, false, cond, T, eqb, ltb, List, [], ◌∷◌, length, get_or, sym, refl, ap, ◌∙◌, inl, inr, arith, pow_mono, not-suc-le-zero, le_of_suc-le-suc}
 use Prim.Native.Nat.{Ordering}
 use native.Mathlib.Nat.{div-eq_of_lt}
 use Rattle.std.proofs.lemmas.Bool.{cases_lt, ltb-true}
 use Rattle.points.specs.Points.{converse, is_lt, same}
 use Rattle.points.specs.Sets.{has}
-use Rattle.points.specs.Tests.{both, upto}
+use Rattle.points.specs.Tests.{upto}
 use Rattle.points.specs.Marks.{order_of, drawn, Draws, mark_rank}
 use Rattle.points.specs.declared.axis.Order.{Order}
 use Rattle.points.proofs.Finite.{both_left, both_right, alike, alike_eq, true_from, upto_at}
@@ -21,7 +21,7 @@ has_beyond set b c h l =
 
 -- a set of codes below b that is the right one
 abbrev pub right_set : ℕ → (ℕ → Bool) → ℕ → Bool
-right_set b f set = both (ltb set (2 ^ b)) (upto b (λ e. alike (has set e) (f e)))
+right_set b f set = ltb set (2 ^ b) && upto b (λ e. alike (has set e) (f e))
 
 pub set_right : (b : ℕ) (f : ℕ → Bool) (set : ℕ) → T (right_set b f set) → ((e : ℕ) → b ≤ e → f e ≡ false) → (e : ℕ) → has set e ≡ f e
 set_right b f set t beyond e = elim (cases_lt e b) [
@@ -41,8 +41,7 @@ table_right b f table t beyond c d hc hd =
 
 -- an axis of m marks whose sets of codes below b are right
 abbrev right_order : ℕ → (ℕ → Ordering) → Order → Bool
-right_order b sides o = both (both (ltb o.before (2 ^ b)) (ltb o.after (2 ^ b)))
-    (upto b (λ c. same (cond (has o.before c) Ordering.lt (cond (has o.after c) Ordering.gt Ordering.eq)) (sides c)))
+right_order b sides o = (ltb o.before (2 ^ b) && ltb o.after (2 ^ b)) && upto b (λ c. same (cond (has o.before c) Ordering.lt (cond (has o.after c) Ordering.gt Ordering.eq)) (sides c))
 
 abbrev pub right_axis : ℕ → ℕ → (ℕ → ℕ → ℕ → Ordering) → List (List Order) → Bool
 right_axis b m sides orders = upto m (λ s. upto m (λ t. right_order b (λ c. sides c s t) (order_of orders s t)))
@@ -50,7 +49,7 @@ right_axis b m sides orders = upto m (λ s. upto m (λ t. right_order b (λ c. s
 order_right : (b : ℕ) (sides : ℕ → Ordering) (o : Order) → T (right_order b sides o) → ((c : ℕ) → b ≤ c → sides c ≡ Ordering.eq) →
     (c : ℕ) → cond (has o.before c) Ordering.lt (cond (has o.after c) Ordering.gt Ordering.eq) ≡ sides c
 order_right b sides o test beyond c =
-    let small : Bool = both (ltb o.before (2 ^ b)) (ltb o.after (2 ^ b)) in
+    let small : Bool = (ltb o.before (2 ^ b) && ltb o.after (2 ^ b)) in
     let stand : ℕ → Ordering = λ c. cond (has o.before c) Ordering.lt (cond (has o.after c) Ordering.gt Ordering.eq) in
     let sizes : T small = both_left small (upto b (λ c. same (stand c) (sides c))) test in
     elim (cases_lt c b) [

@@ -1,11 +1,9 @@
 -- Tests over all numbers below a bound.
-use Rattle.std.specs.Prelude.{ℕ, zero, suc, Bool, true, false}
-
-abbrev pub both : Bool → Bool → Bool
-both true b = b
-both false b = false
+use Rattle.std.specs.Prelude.{ℕ, zero, suc, Bool, true, ◌&&◌}
+-- under this name proofs of crates above cite it
+pub use Rattle.std.specs.Prelude.{◌&&◌ as both}
 
 -- every number below n passes
 abbrev pub upto : ℕ → (ℕ → Bool) → Bool
 upto zero f = true
-upto (suc n) f = both (f n) (upto n f)
+upto (suc n) f = f n && upto n f

@@ -1,10 +1,9 @@
 -- Spells are two marks on one line.
-use Rattle.std.specs.Prelude.{◌≡◌, ℕ, zero, suc, ◌<◌, Bool, T, map, get_or, slice_index_or, refl}
+use Rattle.std.specs.Prelude.{◌≡◌, ℕ, zero, suc, ◌<◌, Bool, ◌&&◌, T, map, get_or, slice_index_or, refl}
 use Rattle.std.proofs.Common.{sym, ap, ◌∙◌, subst, arith, not-suc-le-zero, le_of_suc-le-suc}
 use Prim.Native.Nat.{Ordering, compare}
 use Rattle.std.proofs.lemmas.List.{get_or-map}
 use Rattle.points.specs.Points.{Says, compose, same}
-use Rattle.points.specs.Tests.{both}
 use Rattle.points.proofs.Finite.{both_left, both_right, both_from, implies, implied, every, every_at}
 use Rattle.points.proofs.Compare.{said, says, same_eq, compare_lt, compare_gt, compare_self, compose_compare}
 use Rattle.kinds.specs.Meaning.{Realisation}
@@ -81,10 +80,10 @@ ends_coded FinishedBy = refl
 
 -- four comparisons that the ends of lawful spells can have
 abbrev possible : Ordering → Ordering → Ordering → Ordering → Bool
-possible ss se es ee = both (both (compose ss Prim.Native.Nat.Ordering.lt se) (compose es Prim.Native.Nat.Ordering.lt ee)) (both (compose Prim.Native.Nat.Ordering.lt es ss) (compose Prim.Native.Nat.Ordering.lt ee se))
+possible ss se es ee = (compose ss Prim.Native.Nat.Ordering.lt se && compose es Prim.Native.Nat.Ordering.lt ee) && (compose Prim.Native.Nat.Ordering.lt es ss && compose Prim.Native.Nat.Ordering.lt ee se)
 
 abbrev these : Ends → Ordering → Ordering → Ordering → Ordering → Bool
-these q ss se es ee = both (both (same ss q.0) (same se q.1)) (both (same es q.2) (same ee q.3))
+these q ss se es ee = (same ss q.0 && same se q.1) && (same es q.2 && same ee q.3)
 
 -- are those of the relation that they single out
 abbrev told : Ordering → Ordering → Ordering → Ordering → Bool
@@ -116,12 +115,12 @@ related_told u v hu hv =
     let ee : Ordering = compare u.end v.end in
     let q : Ends = ends (related u v) in
     let can : T (possible ss se es ee) =
-    both_from (both (compose ss Prim.Native.Nat.Ordering.lt se) (compose es Prim.Native.Nat.Ordering.lt ee)) (both (compose Prim.Native.Nat.Ordering.lt es ss) (compose Prim.Native.Nat.Ordering.lt ee se))
+    both_from (compose ss Prim.Native.Nat.Ordering.lt se && compose es Prim.Native.Nat.Ordering.lt ee) (compose Prim.Native.Nat.Ordering.lt es ss && compose Prim.Native.Nat.Ordering.lt ee se)
     (both_from (compose ss Prim.Native.Nat.Ordering.lt se) (compose es Prim.Native.Nat.Ordering.lt ee) (later_lt u.start v.start v.end hv) (later_lt u.end v.start v.end hv))
     (both_from (compose Prim.Native.Nat.Ordering.lt es ss) (compose Prim.Native.Nat.Ordering.lt ee se) (first_lt u.start u.end v.start hu) (first_lt u.start u.end v.end hu)) in
     let all : T (these q ss se es ee) = implied (possible ss se es ee) (these q ss se es ee) (all_told ss se es ee) can in
-    let starts : T (both (same ss q.0) (same se q.1)) = both_left (both (same ss q.0) (same se q.1)) (both (same es q.2) (same ee q.3)) all in
-    let finishes : T (both (same es q.2) (same ee q.3)) = both_right (both (same ss q.0) (same se q.1)) (both (same es q.2) (same ee q.3)) all in
+    let starts : T (same ss q.0 && same se q.1) = both_left (same ss q.0 && same se q.1) (same es q.2 && same ee q.3) all in
+    let finishes : T (same es q.2 && same ee q.3) = both_right (same ss q.0 && same se q.1) (same es q.2 && same ee q.3) all in
     record {
       start_start = same_eq ss q.0 (both_left (same ss q.0) (same se q.1) starts);
       start_end = same_eq se q.1 (both_right (same ss q.0) (same se q.1) starts);
