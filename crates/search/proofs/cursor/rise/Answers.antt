@@ -17,13 +17,6 @@ loop-i-init c =
           ap (λ (z : ℕ). past c.args.codes (length c.args.cursor.now) z (index c.args.codes c.args.cursor.now)) e),
     )
 
-pub overflow_add-cursor : goal.overflow_add-cursor
-overflow_add-cursor c =
-    let r = turn_read c.args.codes c.args.shared c.args.cursor.now c.requires.low c.requires.within.0 c.loop-i.i c.loop-i.cursor
-    c.loop-i-test.true c.loop-i.invariant.0 c.loop-i.invariant.1 in
-    let l = All-get_or (λ z. z < c.args.codes) c.args.cursor.now (c.loop-i.i - 1) 0 (omega (arith, c.loop-i.invariant.0, c.loop-i-test.true)) c.requires.low in
-    omega (arith, r, l, c.requires.coded)
-
 pub returns-then-cursor-i : goal.returns-then-cursor-i
 returns-then-cursor-i c =
     let h = turn_rise c.args.codes c.args.shared c.args.cursor.now c.requires.low c.requires.within.0 c.loop-i.i c.loop-i.cursor

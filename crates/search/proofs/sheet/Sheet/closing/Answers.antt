@@ -22,6 +22,7 @@ invariant_of-result c =
     record {
       some = parts.0;
       few = parts.1;
+      fits = pairs_few c.args.items parts.1;
       room = parts.4;
       sound = parts.5;
       coded = parts.2;

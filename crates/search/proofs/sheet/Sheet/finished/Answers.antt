@@ -6,4 +6,4 @@ use Rattle.search.proofs.sheet.Sheet.finished.Goals as goal
 pub returns : goal.returns
 returns c =
     let self = c.args.self.now in
-    finished_is self.codes (pairs self.items) self.cursor c.is_none.result (pairs_few self.items self.few) self.marked c.is_none.ensures
+    finished_is self.codes (pairs self.items) self.cursor c.is_none.result (self.fits) self.marked c.is_none.ensures

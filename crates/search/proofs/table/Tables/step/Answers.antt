@@ -48,15 +48,6 @@ returns-in_err-filled-in-None-clause-ends g c =
     (ap (λ (z : ℕ). past sheet.codes (length a) z (index sheet.codes a)) (sym c.requires.long.1) ∙ c.in_err-filled-in-None.ensures.ended)) in
     rw c.from_residual-in_err-filled-in-None.ensures is
 
-pub offset_bounds-spent-count : goal.offset_bounds-spent-count
-offset_bounds-spent-count g c =
-    let h : length c.args.cursor.now < 67 = omega (arith, pairs_few c.args.self.now.sheet.now.items c.args.self.now.sheet.now.few, c.requires.long.1) in
-    search rules
-
-pub bounds-spent-count : goal.bounds-spent-count
-bounds-spent-count g c =
-    omega (arith, pairs_few c.args.self.now.sheet.now.items c.args.self.now.sheet.now.few, c.requires.long.1, c.shortest.auto.spent, c.requires.keeps.known.long)
-
 pub returns-in_ok-risen-in-Some-clause-goes_on : goal.returns-in_ok-risen-in-Some-clause-goes_on
 returns-in_ok-risen-in-Some-clause-goes_on g c =
     let sheet = c.args.self.now.sheet.now in
@@ -109,7 +100,7 @@ returns-in_ok-filled-in-None-clause-keeps g c =
     let j = g.T.Joins.joining in
     let rows : List Row = rows_of sheet in
     let a : List ℕ = c.args.cursor.now in
-    let few = pairs_few c.args.self.now.sheet.now.items c.args.self.now.sheet.now.few in
+    let few = c.args.self.now.sheet.now.fits in
     let known = c.in-None.ensures.known in
     let best : c.index-spent-count.result ≡ cost j rows (entry c.copy_from_slice.new.self) =
     c.index-spent-count.is
