@@ -12,7 +12,7 @@ use Rattle.search.specs.Closed.{rows_of, position_of, rules_of}
 use Rattle.search.specs.Sheets.{Holds, number_at}
 use Rattle.search.specs.Tables.{Keeps}
 use Rattle.search.proofs.Blanks.{blank_end}
-use Rattle.search.proofs.Closed.{pairs_few, below_from, written_front, written_holds}
+use Rattle.search.proofs.Closed.{below_from, written_front, written_holds}
 use Rattle.search.proofs.sheet.Sheet.advance.Goals as goal
 
 pub loop-taken-init : goal.loop-taken-init
@@ -143,7 +143,7 @@ loop-taken-preserved g c =
     }
 
 pub invariant_of-self-2 : goal.invariant_of-self-2
-invariant_of-self-2 g c = 
+invariant_of-self-2 g c =
     let s = c.args.self.now in
     let inv = c.loop-taken.invariant in
     record {

@@ -1,13 +1,11 @@
 -- One more pair with each turn, from the last on.
-use Rattle.std.proofs.Common.{◌≡◌, ℕ, suc, ◌+◌, ◌-◌, ◌*◌, ◌<◌, ◌≤◌, ◌≢◌, List, ◌++◌, length, get_or, take, drop, set, sym, ap, ◌∙◌, subst, inl, inr, eq-or-lt_of_le, arith, rules}
+use Rattle.std.proofs.Common.{◌≡◌, ℕ, suc, ◌+◌, ◌-◌, ◌*◌, ◌<◌, ◌≤◌, ◌≢◌, length, get_or, set, sym, ap, ◌∙◌, subst, inl, inr, eq-or-lt_of_le, arith, rules}
 use Rattle.std.proofs.lemmas.List.{length-set, get_or-set_same, get_or-set_other, get_or_default}
 use borrow.Rule.Slice.PartMut.{put_mid}
-use Rattle.points.specs.Scenarios.{pairs}
 use Rattle.tallies.specs.Groups.{span}
 use Rattle.rules.specs.Costs.{of_rows, pair_cost, pair_bound}
 use Rattle.search.specs.Closed.{rows_of}
-use Rattle.search.specs.Tables.{owed_from, Priced, Owed}
-use Rattle.search.proofs.Closed.{pairs_few}
+use Rattle.search.specs.Tables.{owed_from, Owed}
 use Rattle.search.proofs.Prefixes.{part_long}
 use Rattle.search.proofs.Loops.{bounds_first, turn_joins, put_here, put_later}
 use Rattle.search.proofs.sheet.Sheet.fill.Goals as goal

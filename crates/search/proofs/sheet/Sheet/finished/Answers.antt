@@ -1,6 +1,6 @@
 -- A scenario at the cursor has a number below the number of scenarios.
 use Rattle.points.specs.Scenarios.{pairs}
-use Rattle.search.proofs.Closed.{finished_is, pairs_few}
+use Rattle.search.proofs.Closed.{finished_is}
 use Rattle.search.proofs.sheet.Sheet.finished.Goals as goal
 
 pub returns : goal.returns

@@ -1,10 +1,9 @@
 -- The triples that a pair closes, as the three parts of the scenario have them.
-use Rattle.std.proofs.Common.{◌≡◌, ℕ, ◌+◌, ◌-◌, ◌<◌, ◌≤◌, Bool, not, List, length, get_or, take, drop, sym, ap, ◌∙◌, arith}
+use Rattle.std.proofs.Common.{ℕ, ◌+◌, ◌≤◌, Bool, not, List, get_or, ap, ◌∙◌, arith}
 use Rattle.points.specs.Scenarios.{pairs}
 use Rattle.points.proofs.Placed.{pairs_up}
 use Rattle.rules.specs.Steps.{some}
 use Rattle.search.specs.Closed.{rules_of}
-use Rattle.search.proofs.Closed.{pairs_few}
 use Rattle.search.proofs.Prefixes.{parts_some, unfit_closed}
 use Rattle.search.proofs.table.Tables.closes_misfit.Goals as goal
 

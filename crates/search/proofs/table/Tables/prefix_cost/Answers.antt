@@ -1,5 +1,5 @@
 -- The cost of the prefix before it, joined with that of its last pair.
-use Rattle.std.proofs.Common.{◌≡◌, ℕ, ◌+◌, ◌-◌, ◌*◌, ◌<◌, get_or, ap, ◌∙◌, arith, rules}
+use Rattle.std.proofs.Common.{◌≡◌, ℕ, ◌+◌, ◌-◌, ◌*◌, ◌<◌, get_or, ap, ◌∙◌, arith}
 use Rattle.std.proofs.ByRecursion.{All-get_or}
 use Rattle.std.proofs.lemmas.List.{get_or_default}
 use Rattle.points.specs.Scenarios.{pairs}
@@ -7,7 +7,6 @@ use Rattle.rules.specs.Costs.{pair_cost}
 use Rattle.search.specs.Closed.{rows_of}
 use Rattle.search.specs.Tables.{spent_on}
 use Rattle.rules.proofs.Properly.{proper_is}
-use Rattle.search.proofs.Closed.{pairs_few}
 use Rattle.rules.proofs.Costs.{pairs_push}
 use Rattle.search.proofs.Loops.{turn_joins}
 use Rattle.search.proofs.table.Tables.prefix_cost.Goals as goal

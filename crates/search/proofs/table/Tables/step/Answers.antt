@@ -1,17 +1,16 @@
 -- A step past the shortest refuted prefix, or to a better incumbent.
-use Rattle.std.proofs.Common.{◌≡◌, ℕ, ◌+◌, ◌^◌, ◌<◌, ◌≤◌, Option, IfNone, List, length, get_or, sym, refl, ap, ◌∙◌, subst, arith, rules}
+use Rattle.std.proofs.Common.{◌≡◌, ℕ, ◌+◌, ◌^◌, ◌≤◌, List, length, sym, ap, ◌∙◌, subst, arith}
 use Rattle.std.proofs.lemmas.List.{get_or_default}
 use Rattle.points.specs.Scenarios.{pairs, entry}
 use Rattle.rules.specs.declared.row.Row.{Row}
 use Rattle.rules.specs.Costs.{cost}
 use Rattle.rules.specs.Orders.{index, past}
-use Rattle.rules.specs.Steps.{Position, position, step}
+use Rattle.rules.specs.Steps.{position, step}
 use Rattle.rules.proofs.Properly.{proper_is}
 use Rattle.rules.proofs.Costs.{pairs_join}
 use Rattle.rules.proofs.Advances.{step_skips, step_holds}
 use Rattle.search.specs.Closed.{rows_of, rules_of}
 use Rattle.search.specs.Tables.{spent_on}
-use Rattle.search.proofs.Closed.{pairs_few}
 use Rattle.search.proofs.Prefixes.{stands_kept, spent_kept}
 use Rattle.search.proofs.table.Tables.step.Goals as goal
 
