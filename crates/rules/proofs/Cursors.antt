@@ -1,8 +1,8 @@
 -- The cursor as codes: the number after all scenarios that share a prefix, by carrying.
-use Rattle.std.proofs.Common.{◌≡◌, ℕ, zero, suc, ◌+◌, ◌-◌, ◌*◌, ◌/◌, ◌^◌, ◌<◌, ◌≤◌, List, [], ◌∷◌, ◌++◌, length, get_or, take, drop, set, replicate, sym, ap, ◌∙◌, subst, inl, inr, append_assoc, append-nil, mul_assoc, mul_comm, add-mul, eq-or-lt_of_le, one-mul, pow-suc, zero-add, zero-mul, mul-one, div-one, arith, take-suc, pow-add}
+use Rattle.std.proofs.Common.{◌≡◌, ℕ, zero, suc, ◌+◌, ◌-◌, ◌*◌, ◌/◌, ◌^◌, ◌<◌, ◌≤◌, List, [], ◌∷◌, ◌++◌, length, get_or, take, drop, set, replicate, sym, ap, ◌∙◌, subst, inl, inr, append_assoc, mul_assoc, mul_comm, add-mul, eq-or-lt_of_le, one-mul, pow-suc, zero-add, zero-mul, mul-one, div-one, arith, take-suc, pow-add}
 use native.Mathlib.Nat.{pow-zero}
 use lib.Arith.{digits_div}
-use Rattle.std.proofs.lemmas.List.{length-append, length-drop, length-replicate, length-take-le, take-append-drop, take_all, take-take, take-append-le, take-set-le, set_at, get_or_at}
+use Rattle.std.proofs.lemmas.List.{length-append, length-drop, length-replicate, length-take-le, take-append-drop, take-take, take-append-le, take-set-le, set_at, get_or_at}
 use Rattle.std.proofs.ByRecursion.{All-get_or, All-append, All-take, All-drop}
 use Rattle.rules.specs.Orders.{Below, index, digits, past}
 use Rattle.rules.proofs.Orders.{index_lt, index_same, index_digits, index_zeros, below_zeros, below_digits, length_digits}
@@ -112,12 +112,6 @@ read_at a i l =
     ap (λ (z : List ℕ). get_or (z ++ zeros (length a - suc i)) i 0) (take-suc a i 0 l)
     ∙ ap (λ (z : List ℕ). get_or z i 0) (append_assoc (take i a) (get_or a i 0 ∷ []) (zeros (length a - suc i)))
     ∙ get_or_at (take i a) (get_or a i 0) (zeros (length a - suc i)) 0 i (length-take-le i a (omega arith))
-
--- A list is its front with no zeros after it.
-pub begins : (a : List ℕ) → a ≡ take (length a) a ++ zeros (length a - length a)
-begins a =
-    let z : length a - length a ≡ 0 = omega arith in
-    sym (ap (λ (n : ℕ). take (length a) a ++ zeros n) z ∙ append-nil (take (length a) a) ∙ take_all (length a) a (omega arith))
 
 -- A front with zeros after it has codes only.
 pub below_front : (b i r : ℕ) (a : List ℕ) → 0 < b → Below b a → Below b (take i a ++ zeros r)

@@ -1,8 +1,8 @@
 -- What the incumbent of a sound search is: the scenario of an assignment, and of least cost once the search has finished.
-use Rattle.std.proofs.Common.{◌≡◌, ℕ, ◌<◌, ◌≤◌, Bool, true, List, sym, subst, arith}
+use Rattle.std.proofs.Common.{◌≡◌, ℕ, ◌<◌, Bool, true, List, sym, subst, arith}
 use Rattle.std.proofs.lemmas.Bool.{leb-true}
 use Rattle.points.specs.Scenarios.{entry}
-use Rattle.kinds.specs.Meaning.{Meaning, Laws, Realisation, Realises}
+use Rattle.kinds.specs.Meaning.{Meaning, Laws, Realises}
 use Rattle.tallies.specs.Joins.{Joining}
 use Rattle.tallies.specs.declared.claim.Claim.{Claim}
 use Rattle.rules.specs.declared.row.Row.{Row}
@@ -32,15 +32,6 @@ realised m laws r n rows proper s sound x real =
       scenario_of_entries (codes_of m x) n s.incumbent sound.long codes,
       cost_depends r.joining n rows proper (codes_of m x) (entry s.incumbent) codes,
     )
-
--- For 1 to 12 items, the values written for the incumbent are an assignment, their scenario is the incumbent, and their cost is its cost.
-pub incumbent_realised : {V C : Type 0} (m : Meaning V) → Laws m → (values : ℕ → List ℕ → ℕ → V) → Realisation m values
-    → (r : Rules C) (n : ℕ) (rows : List Row) → Proper n rows → 1 ≤ n → n ≤ 12 → (s : Position) → Sound m r n rows s
-    → Assignment m n (values n s.incumbent)
-    × (scenario_by m n (values n s.incumbent) ≡ s.incumbent)
-    × (cost_by m r.joining rows (values n s.incumbent) ≡ best_cost r rows s)
-incumbent_realised m laws values realises r n rows proper some few s sound =
-    realised m laws r n rows proper s sound (values n s.incumbent) (realises n s.incumbent some few sound.fitting)
 
 -- Values that have the scenario of the incumbent of a sound search, with the cost of the incumbent, are settled.
 pub settled : {V C : Type 0} (m : Meaning V) → Laws m → (fit : ℕ → ℕ → ℕ → Bool) (j : Joining Claim C) (at_most : C → C → Bool)

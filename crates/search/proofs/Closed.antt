@@ -1,10 +1,10 @@
 -- What the facts of a closed sheet give: its rows are proper, its codes are below the number of codes, its pairs are few.
-use Rattle.std.proofs.Common.{Option, Some, None, is_some, ◌≡◌, ℕ, zero, suc, ◌+◌, ◌-◌, ◌^◌, ◌<◌, ◌≤◌, Bool, true, false, cond, not, ◌&&◌, ltb, leb, ◌⊎◌, List, [], ◌∷◌, ◌++◌, length, get_or, take, drop, set, replicate, vec_items, vec_capacity, Vec, sym, refl, ap, ◌∙◌, subst, inl, inr, eq-or-lt_of_le, pow-suc, mul-one, arith}
+use Rattle.std.proofs.Common.{Option, Some, None, is_some, ◌≡◌, ℕ, zero, suc, ◌+◌, ◌-◌, ◌^◌, ◌<◌, ◌≤◌, Bool, true, not, ◌&&◌, ltb, leb, ◌⊎◌, List, [], ◌∷◌, ◌++◌, length, take, drop, set, replicate, vec_items, vec_capacity, Vec, sym, refl, ap, ◌∙◌, subst, inl, inr, eq-or-lt_of_le, pow-suc, mul-one, arith}
 use Rattle.std.specs.Option.{ForSome}
 use native.Mathlib.Nat.{pow-zero}
 use Rattle.std.specs.declared.alloc.Global.{Global}
 use Rattle.std.proofs.lemmas.Bool.{not-false, not-true, and_parts, and_from, ltb-true, lt-ltb, le-leb, lt-leb, leb-true}
-use Rattle.std.proofs.ByRecursion.{All-append, All-get_or}
+use Rattle.std.proofs.ByRecursion.{All-append}
 use Rattle.std.proofs.lemmas.List.{length-set, length-take-le, length-append, length-drop, get_or-append_right, get_or-drop, take_at, take_more_set, take-replicate}
 use Rattle.points.specs.Scenarios.{pairs}
 use Rattle.points.proofs.Placed.{pairs_up}
@@ -15,7 +15,7 @@ use Rattle.rules.proofs.Cursors.{index_second}
 use Rattle.search.specs.Closed.{closes}
 use Rattle.rules.specs.Properly.{between, proper}
 use Rattle.search.proofs.Blanks.{blank_set, blank_zeros}
-use Rattle.search.specs.Sheets.{all_below, Blank, Holds, number_at}
+use Rattle.search.specs.Sheets.{all_below, Holds, number_at}
 
 -- Up to 12 items have up to 66 pairs.
 pub pairs_few : (n : ℕ) → n ≤ 12 → pairs n ≤ 66

@@ -7,10 +7,9 @@ use Rattle.std.proofs.lemmas.Slice.{take-put_mid, drop-put_mid}
 use Rattle.tallies.specs.Joins.{Joining, Monoid, joined, most_penalties}
 use Rattle.tallies.specs.Groups.{span}
 use Rattle.tallies.specs.declared.claim.Claim.{Claim}
-use Rattle.tallies.proofs.Along.{monoid_along}
 use Rattle.tallies.proofs.Joins.{push}
 use Rattle.rules.specs.declared.row.Row.{Row}
-use Rattle.rules.specs.Rows.{claim_of, counts, counting, breaks, spot}
+use Rattle.rules.specs.Rows.{counts, counting, breaks, spot}
 use Rattle.rules.specs.Costs.{of_rows, cost, charge, pair_cost, pair_bound}
 use Rattle.rules.proofs.Filters.{length_kept_by_le, kept_by_twice}
 
@@ -32,11 +31,6 @@ joined_kept_more {P = P} {C = C} j m f xs i d few l = ap (joined j) (filter_more
 -- A filter of the rows that count is one filter of all rows.
 pub kept_counting : (f : Row → Bool) (rows : List Row) → filter f (counting rows) ≡ filter (λ (r : Row). counts r && f r) rows
 kept_counting f rows = kept_by_twice f counts (λ (r : Row). counts r && f r) (λ r. refl) rows
-
--- A turn of a loop that adds a penalty by a test, where the code has the test as v and the cost so far as sum.
-pub turn_adds : {C : Type 0} (join : C → C → C) (penalty : C) {v w : Bool} {sum was next new : C}
-    → v ≡ w → sum ≡ was → next ≡ cond w (join was penalty) was → new ≡ cond v (join sum penalty) sum → new ≡ next
-turn_adds join penalty test so_far more now = cc
 
 -- A turn of a loop that joins a cost to the cost so far.
 pub turn_joins : {C : Type 0} (join : C → C → C) {cost here sum was next new : C} → cost ≡ here → sum ≡ was → next ≡ join was here → new ≡ join sum cost → new ≡ next
@@ -69,35 +63,8 @@ module _ {C : Type 0} (j : Joining Claim C) where
       ap (joined (of_rows j))
       (kept_by_twice test here (λ r. here r && test r) (λ r. refl) (counting rows) ∙ kept_counting (λ r. here r && test r) rows)
 
-  module _ (m : Monoid j) (rows : List Row) (i : ℕ) (d : Row) (few : length rows ≤ most_penalties) (l : i < length rows) where
-    -- Each with one more row.
-    pub cost_more : (f : ℕ → ℕ → ℕ) → cost j (take (i + 1) rows) f
-        ≡ cond (counts (get_or rows i d) && breaks (get_or rows i d) (f (get_or rows i d).low (get_or rows i d).high))
-        (j.join (cost j (take i rows) f) (j.penalty (claim_of (get_or rows i d)))) (cost j (take i rows) f)
-    cost_more f =
-        simp cost_kept
-        (joined_kept_more (of_rows j) (monoid_along claim_of j m) (λ (r : Row). counts r && breaks r (f r.low r.high)) rows i d few l)
-
-    pub charge_more : (f : ℕ → ℕ → ℕ) (p : ℕ) → charge j (take (i + 1) rows) f p
-        ≡ cond (counts (get_or rows i d) && (breaks (get_or rows i d) (f (get_or rows i d).low (get_or rows i d).high) && eqb (get_or rows i d).person p))
-        (j.join (charge j (take i rows) f p) (j.penalty (claim_of (get_or rows i d)))) (charge j (take i rows) f p)
-    charge_more f p =
-        simp charge_kept
-        (joined_kept_more (of_rows j) (monoid_along claim_of j m)
-        (λ (r : Row). counts r && (breaks r (f r.low r.high) && eqb r.person p)) rows i d few l)
-
-    pub pair_cost_more : (s c : ℕ) → pair_cost j (take (i + 1) rows) s c
-        ≡ cond (counts (get_or rows i d) && (eqb (spot (get_or rows i d)) s && breaks (get_or rows i d) c))
-        (j.join (pair_cost j (take i rows) s c) (j.penalty (claim_of (get_or rows i d)))) (pair_cost j (take i rows) s c)
-    pair_cost_more s c =
-        simp pair_cost_kept
-        (joined_kept_more (of_rows j) (monoid_along claim_of j m) (λ (r : Row). counts r && (eqb (spot r) s && breaks r c)) rows i d few l)
-
   module _ (at_most : C → C → Bool) (rows : List Row) where
-    -- The bound of a pair over one code, and over one more.
-    pub pair_bound_one : (s : ℕ) → pair_bound j at_most 1 rows s ≡ pair_cost j rows s 0
-    pair_bound_one s = refl
-
+    -- The bound of a pair over one code more.
     pub pair_bound_more : (b s : ℕ) → 1 ≤ b → pair_bound j at_most (b + 1) rows s
         ≡ cond (at_most (pair_cost j rows s b) (pair_bound j at_most b rows s)) (pair_cost j rows s b) (pair_bound j at_most b rows s)
     pair_bound_more zero s h = absurd (omega arith)

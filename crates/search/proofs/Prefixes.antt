@@ -1,7 +1,7 @@
 -- Prefixes of scenarios: what one more code adds, and what scenarios that share a prefix share.
 use Rattle.std.proofs.Common.{◌≡◌, ℕ, zero, suc, ◌+◌, ◌-◌, ◌<◌, ◌≤◌, Bool, true, false, not, ◌&&◌, ◌||◌, ltb, ◌≢◌, List, [], ◌∷◌, length, get_or, take, drop, set, sym, refl, ap, ◌∙◌, subst, inl, inr, arith, below_more}
 use Rattle.std.specs.List.{list_any, zip}
-use Rattle.std.proofs.Math.Bool.{or_assoc, or_comm}
+use Rattle.std.proofs.Math.Bool.{or_assoc, or_comm, and-false}
 use Rattle.std.proofs.lemmas.List.{length-take-le, length-drop, get_or-take, get_or-drop, take-take, get_or-set_same, get_or-set_other}
 use Rattle.std.proofs.lemmas.Bool.{cases_Bool, cases_lt, both_ways, and_cases, or_parts, or_left, or_right, lt-ltb, le-ltb, not-false, not-true}
 use Rattle.points.specs.Scenarios.{pairs, place, entry}
@@ -90,11 +90,7 @@ parts_some test a m l k hm hl =
     ∙ some_same k (λ i. test (get_or xs i 0) (get_or ys i 0)) (λ i. test (get_or a (m + i) 0) (get_or a (l + i) 0))
     (λ i lt. ap (λ (z : ℕ). test z (get_or ys i 0)) (part_read a m k i lt) ∙ ap (test (get_or a (m + i) 0)) (part_read a l k i lt))
 
-and_no : (v : Bool) → (v && false) ≡ false
-and_no true = refl
-and_no false = refl
-
--- The first of the numbers from q on that passes.
+-- The triples of a prefix, and whether all fit.
 module _ {C : Type 0} (r : Rules C) where
   -- A triple of a prefix of q codes does not fit.
   abbrev misfit : ℕ → List ℕ → ℕ → ℕ → ℕ → Bool
@@ -104,7 +100,7 @@ module _ {C : Type 0} (r : Rules C) where
   misfit_out q a i j l h = ap (λ (v : Bool). v && not (r.fit (entry a i j) (entry a j l) (entry a i l))) (le-ltb (place j l) q h)
 
   misfit_fits : (q : ℕ) (a : List ℕ) (i j l : ℕ) → r.fit (entry a i j) (entry a j l) (entry a i l) ≡ true → misfit q a l j i ≡ false
-  misfit_fits q a i j l h = ap (λ (v : Bool). ltb (place j l) q && not v) h ∙ and_no (ltb (place j l) q)
+  misfit_fits q a i j l h = ap (λ (v : Bool). ltb (place j l) q && not v) h ∙ and-false (ltb (place j l) q)
 
   -- Where no triple of the prefix is unfit, each fits.
   fits_each : (n q : ℕ) (a : List ℕ) → unfit r n q a ≡ false → (i j l : ℕ) → i < j → j < l → l < n → place j l < q

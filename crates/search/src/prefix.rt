@@ -12,7 +12,7 @@ use kinds::kind::Kind;
 use points::scenario::pairs;
 use tallies::tally::{Joins, Tally};
 
-// The lower and the higher item of the pair at each place.
+// The lower and the higher item of the pair at each place. It is static, as a constant of pairs would be built anew at each use.
 static SIDES: [(u8, u8); 66] = [
     (0, 1),
     (0, 2),

@@ -19,6 +19,7 @@ pub struct Sheet {
     pub(crate) cursor: Option<[u8; 66]>,
     ghost some: { 1 ≤ items },
     ghost few: { items ≤ 12 },
+    ghost fits: { pairs items ≤ 66 },
     ghost room: { 256 ≤ vec_capacity rows },
     ghost sound: { proper items rows.items ≡ true },
     ghost coded: { 1 ≤ codes },

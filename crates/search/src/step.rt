@@ -65,7 +65,8 @@ impl<'a, T: Tally> Tables<'a, T> {
 }
 
 impl Sheet {
-    // The steps of a search, by tables of the lengths that it needs: the costs of the pairs and the bounds are filled in first.
+    // The steps of a search, by tables of the lengths that it needs: the costs of the pairs and the bounds are filled in first. The tables
+    // are passed one by one, since no loop can run while parts of a ledger, whose type says how long they are, are lent.
     fn advance<K: Kind, T: Tally>(
         &mut self,
         prices: &mut [T::Cost],

@@ -1,10 +1,9 @@
 -- A turn sets a code to 0 and carries, or raises it.
-use Rattle.std.proofs.Common.{◌≡◌, ℕ, ◌+◌, ◌-◌, ◌<◌, ◌≤◌, length, max, get_or, take, set, sym, refl, ap, ◌∙◌, subst, arith}
-use Rattle.std.proofs.ByRecursion.{All-get_or}
+use Rattle.std.proofs.Common.{◌≡◌, ℕ, ◌+◌, ◌-◌, ◌<◌, ◌≤◌, length, max, get_or, take, set, sym, ap, ◌∙◌, subst, arith}
 use Rattle.rules.specs.Orders.{Below, index, past}
 use Rattle.search.specs.Sheets.{Blank}
 use Rattle.search.proofs.Blanks.{blank_front, blank_after, blank_set}
-use Rattle.rules.proofs.Cursors.{zeros, below_front, past_none, turn_read, turn_rise, turn_zero, turn_carry, rise_shares}
+use Rattle.rules.proofs.Cursors.{zeros, below_front, past_none, turn_rise, turn_zero, turn_carry, rise_shares}
 use Rattle.search.proofs.cursor.rise.Goals as goal
 use Rattle.search.proofs.cursor.rise.Goals.{else-i-shared-via-then-i-shared+else-cursor-i, else-i-shared-via-else-i-shared}
 
@@ -16,13 +15,6 @@ loop-i-init c =
       λ h. (let e : c.args.shared ≡ c.max-i.result = omega (arith, h, top) in
           ap (λ (z : ℕ). past c.args.codes (length c.args.cursor.now) z (index c.args.codes c.args.cursor.now)) e),
     )
-
-pub overflow_add-cursor : goal.overflow_add-cursor
-overflow_add-cursor c =
-    let r = turn_read c.args.codes c.args.shared c.args.cursor.now c.requires.low c.requires.within.0 c.loop-i.i c.loop-i.cursor
-    c.loop-i-test.true c.loop-i.invariant.0 c.loop-i.invariant.1 in
-    let l = All-get_or (λ z. z < c.args.codes) c.args.cursor.now (c.loop-i.i - 1) 0 (omega (arith, c.loop-i.invariant.0, c.loop-i-test.true)) c.requires.low in
-    omega (arith, r, l, c.requires.coded)
 
 pub returns-then-cursor-i : goal.returns-then-cursor-i
 returns-then-cursor-i c =

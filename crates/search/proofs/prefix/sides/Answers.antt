@@ -1,5 +1,5 @@
 -- The table is right at each place, by one computed test for each clause.
-use Rattle.std.proofs.Common.{ℕ, ◌+◌, Bool, eqb, ltb, List, [], ◌∷◌, get_or, eqb→eq, ltb→lt}
+use Rattle.std.proofs.Common.{ℕ, ◌+◌, eqb, ltb, List, [], ◌∷◌, get_or, eqb→eq, ltb→lt}
 use Rattle.points.specs.Scenarios.{pairs}
 use Rattle.search.proofs.Listed.{at_each}
 use Rattle.search.proofs.prefix.sides.Goals as goal

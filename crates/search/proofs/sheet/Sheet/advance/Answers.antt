@@ -12,7 +12,7 @@ use Rattle.search.specs.Closed.{rows_of, position_of, rules_of}
 use Rattle.search.specs.Sheets.{Holds, number_at}
 use Rattle.search.specs.Tables.{Keeps}
 use Rattle.search.proofs.Blanks.{blank_end}
-use Rattle.search.proofs.Closed.{pairs_few, below_from, written_front, written_holds}
+use Rattle.search.proofs.Closed.{below_from, written_front, written_holds}
 use Rattle.search.proofs.sheet.Sheet.advance.Goals as goal
 
 pub loop-taken-init : goal.loop-taken-init
@@ -20,7 +20,7 @@ loop-taken-init g c =
     let s = c.args.self.now in
     let p : ℕ = pairs c.args.self.now.items in
     let r = rules_of s g.K.Kind.fit g.T.Joins.joining g.T.Tally.order in
-    let few = pairs_few c.args.self.now.items c.args.self.now.few in
+    let few = c.args.self.now.fits in
     let marked : Holds s.codes p c.in-Some.cursor = s.marked c.in-Some.cursor c.in-Some.is in
     let long : length (take p c.in-Some.cursor) ≡ pairs c.args.self.now.items = length-take-le p c.in-Some.cursor (omega (arith, few, marked.long)) in
     record {
@@ -36,9 +36,6 @@ loop-taken-init g c =
         blank = blank_end c.pairs-count.result (take p c.in-Some.cursor) (omega (arith, c.pairs-count.ensures, long));
       };
     }
-
-pub slice_bounds-incumbent-end : goal.slice_bounds-incumbent-end
-slice_bounds-incumbent-end g c = omega (arith, pairs_few c.args.self.now.items c.args.self.now.few, c.pairs-count.ensures, c.type_inv.incumbent)
 
 pub step-requires-clause-below : goal.step-requires-clause-below
 step-requires-clause-below g c =
@@ -60,12 +57,13 @@ pub invariant_of-self : goal.invariant_of-self
 invariant_of-self g c =
     let s = c.args.self.now in
     let inv = c.loop-taken.invariant in
-    let few = pairs_few s.items s.few in
+    let few = s.fits in
     let same : c.pairs-count.result - 0 ≡ pairs c.args.self.now.items = omega (arith, c.pairs-count.ensures) in
     let long = c.step.auto.incumbent ∙ length-take-le (c.pairs-count.result - 0) c.loop-taken.incumbent (omega (arith, same, few, inv.held.long)) ∙ same in
     record {
       some = s.some;
       few = s.few;
+      fits = s.fits;
       room = s.room;
       sound = s.sound;
       coded = s.coded;
@@ -98,7 +96,7 @@ returns-in-None-clause-advanced g c =
     let p : ℕ = pairs c.args.self.now.items in
     let r = rules_of s g.K.Kind.fit g.T.Joins.joining g.T.Tally.order in
     let inv = c.loop-taken.invariant in
-    let few = pairs_few s.items s.few in
+    let few = s.fits in
     let same : c.pairs-count.result - 0 ≡ pairs c.args.self.now.items = omega (arith, c.pairs-count.ensures) in
     let long = c.step.auto.incumbent ∙ length-take-le (c.pairs-count.result - 0) c.loop-taken.incumbent (omega (arith, same, few, inv.held.long)) ∙ same in
     ap (λ (z : List ℕ). position z (s.codes ^ p))
@@ -113,7 +111,7 @@ returns-in-None-clause-taken g c =
     let inv = c.loop-taken.invariant in
     let same : c.pairs-count.result - 0 ≡ pairs c.args.self.now.items = omega (arith, c.pairs-count.ensures) in
     (last_one r s.items (rows_of s) c.args.steps c.loop-taken.taken (position_of s) c.loop-taken.incumbent c.loop-taken.cursor inv.under_way c.loop-taken-test.true
-    inv.marked (pairs_few s.items s.few) (c.pairs-count.result - 0) same c.step.new.incumbent (s.codes ^ pairs s.items) c.in-None.ensures.ends refl).1
+    inv.marked (s.fits) (c.pairs-count.result - 0) same c.step.new.incumbent (s.codes ^ pairs s.items) c.in-None.ensures.ends refl).1
 
 pub loop-taken-preserved : goal.loop-taken-preserved
 loop-taken-preserved g c =
@@ -123,7 +121,7 @@ loop-taken-preserved g c =
     let r = rules_of s g.K.Kind.fit g.T.Joins.joining g.T.Tally.order in
     let inv = c.loop-taken.invariant in
     let e = c.in-Some-step.ensures in
-    let few = pairs_few s.items s.few in
+    let few = s.fits in
     let k : ℕ = c.pairs-count.result - 0 in
     let same : c.pairs-count.result - 0 ≡ pairs c.args.self.now.items = omega (arith, c.pairs-count.ensures) in
     let out : List ℕ = c.step.new.incumbent in
@@ -145,12 +143,13 @@ loop-taken-preserved g c =
     }
 
 pub invariant_of-self-2 : goal.invariant_of-self-2
-invariant_of-self-2 g c = 
+invariant_of-self-2 g c =
     let s = c.args.self.now in
     let inv = c.loop-taken.invariant in
     record {
       some = s.some;
       few = s.few;
+      fits = s.fits;
       room = s.room;
       sound = s.sound;
       coded = s.coded;

@@ -1,5 +1,5 @@
 -- Parts that pass the test make a sheet at its opening.
-use Rattle.std.proofs.Common.{◌≡◌, ℕ, ◌≤◌, List, Option, replicate, sym, refl, ap, ◌∙◌, subst, arith, take}
+use Rattle.std.proofs.Common.{◌≡◌, ℕ, ◌≤◌, List, Option, replicate, sym, ap, ◌∙◌, subst, arith}
 use Rattle.std.specs.Option.{ForSome}
 use Rattle.std.proofs.lemmas.List.{take-replicate}
 use Rattle.points.specs.Scenarios.{pairs}
@@ -22,6 +22,7 @@ invariant_of-result c =
     record {
       some = parts.0;
       few = parts.1;
+      fits = pairs_few c.args.items parts.1;
       room = parts.4;
       sound = parts.5;
       coded = parts.2;

@@ -1,24 +1,14 @@
 -- One more pair with each turn, from the last on.
-use Rattle.std.proofs.Common.{◌≡◌, ℕ, suc, ◌+◌, ◌-◌, ◌*◌, ◌<◌, ◌≤◌, ◌≢◌, List, ◌++◌, length, get_or, take, drop, set, sym, ap, ◌∙◌, subst, inl, inr, eq-or-lt_of_le, arith, rules}
+use Rattle.std.proofs.Common.{◌≡◌, ℕ, suc, ◌+◌, ◌-◌, ◌*◌, ◌<◌, ◌≤◌, ◌≢◌, length, get_or, set, sym, ap, ◌∙◌, subst, inl, inr, eq-or-lt_of_le, arith, rules}
 use Rattle.std.proofs.lemmas.List.{length-set, get_or-set_same, get_or-set_other, get_or_default}
 use borrow.Rule.Slice.PartMut.{put_mid}
-use Rattle.points.specs.Scenarios.{pairs}
 use Rattle.tallies.specs.Groups.{span}
 use Rattle.rules.specs.Costs.{of_rows, pair_cost, pair_bound}
 use Rattle.search.specs.Closed.{rows_of}
-use Rattle.search.specs.Tables.{owed_from, Priced, Owed}
-use Rattle.search.proofs.Closed.{pairs_few}
+use Rattle.search.specs.Tables.{owed_from, Owed}
 use Rattle.search.proofs.Prefixes.{part_long}
 use Rattle.search.proofs.Loops.{bounds_first, turn_joins, put_here, put_later}
 use Rattle.search.proofs.sheet.Sheet.fill.Goals as goal
-
-pub offset_bounds-owed-count : goal.offset_bounds-owed-count
-offset_bounds-owed-count g c =
-    let h : c.pairs-count.result < 67 = omega (arith, pairs_few c.args.self.now.items c.args.self.now.few, c.pairs-count.ensures) in
-    search rules
-
-pub bounds-owed-count : goal.bounds-owed-count
-bounds-owed-count g c = omega (arith, pairs_few c.args.self.now.items c.args.self.now.few, c.pairs-count.ensures, c.requires.1)
 
 pub loop-spot-init : goal.loop-spot-init
 loop-spot-init g c =
@@ -31,25 +21,8 @@ loop-spot-init g c =
       λ s z lo hi l. absurd (omega (arith, lo, hi)),
       λ q lo hi. (let same : c.pairs-count.result ≡ q = omega (arith, lo, hi) in
           subst (λ (z : ℕ). get_or (set owed count c.empty.result) z j.empty ≡ owed_from j g.T.Tally.order self.codes (rows_of self) count z) same
-          (get_or-set_same owed count c.empty.result j.empty (omega (arith, pairs_few c.args.self.now.items c.args.self.now.few, c.pairs-count.ensures, c.requires.1)) ∙ c.empty.ensures ∙ ap (span (of_rows j) f count) none)),
+          (get_or-set_same owed count c.empty.result j.empty (omega (arith, c.args.self.now.fits, c.pairs-count.ensures, c.requires.1)) ∙ c.empty.ensures ∙ ap (span (of_rows j) f count) none)),
     )
-
-pub overflow_mul-prices : goal.overflow_mul-prices
-overflow_mul-prices g c = omega (arith, pairs_few c.args.self.now.items c.args.self.now.few, c.pairs-count.ensures, c.loop-spot.auto)
-
-pub overflow_mul-prices-in-loop-spot : goal.overflow_mul-prices-in-loop-spot
-overflow_mul-prices-in-loop-spot g c = omega (arith, pairs_few c.args.self.now.items c.args.self.now.few, c.pairs-count.ensures, c.loop-spot.auto)
-
-pub overflow_add-prices : goal.overflow_add-prices
-overflow_add-prices g c = omega (arith, pairs_few c.args.self.now.items c.args.self.now.few, c.pairs-count.ensures, c.loop-spot.auto)
-
-pub offset_bounds-prices-spot : goal.offset_bounds-prices-spot
-offset_bounds-prices-spot g c =
-    let h : (c.loop-spot.spot - 1) * 64 < 4224 = omega (arith, pairs_few c.args.self.now.items c.args.self.now.few, c.pairs-count.ensures, c.loop-spot.auto, c.loop-spot-test.true) in
-    search rules
-
-pub slice_bounds-prices-end : goal.slice_bounds-prices-end
-slice_bounds-prices-end g c = omega (arith, pairs_few c.args.self.now.items c.args.self.now.few, c.pairs-count.ensures, c.loop-spot.auto, c.loop-spot-test.true, c.requires.0)
 
 pub loop-spot-preserved : goal.loop-spot-preserved
 loop-spot-preserved g c =
@@ -61,7 +34,7 @@ loop-spot-preserved g c =
     let count : ℕ = c.pairs-count.result in
     let here : ℕ = c.loop-spot.spot - 1 in
     let owed = c.loop-spot.owed in
-    let few = pairs_few c.args.self.now.items c.args.self.now.few in
+    let few = c.args.self.now.fits in
     let up : (c.loop-spot.spot - 1) + 1 ≡ c.loop-spot.spot = omega (arith, c.loop-spot-test.true) in
     let next : suc (c.loop-spot.spot - 1) ≡ (c.loop-spot.spot - 1) + 1 = omega arith in
     let inside : c.loop-spot.spot - 1 < c.pairs-count.result = omega (arith, c.loop-spot.auto, c.loop-spot-test.true) in

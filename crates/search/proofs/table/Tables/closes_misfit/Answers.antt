@@ -1,27 +1,21 @@
 -- The triples that a pair closes, as the three parts of the scenario have them.
-use Rattle.std.proofs.Common.{◌≡◌, ℕ, ◌+◌, ◌-◌, ◌<◌, ◌≤◌, Bool, not, List, length, get_or, take, drop, sym, ap, ◌∙◌, arith}
+use Rattle.std.proofs.Common.{ℕ, ◌+◌, ◌≤◌, Bool, not, List, get_or, ap, ◌∙◌, arith}
 use Rattle.points.specs.Scenarios.{pairs}
 use Rattle.points.proofs.Placed.{pairs_up}
 use Rattle.rules.specs.Steps.{some}
 use Rattle.search.specs.Closed.{rules_of}
-use Rattle.search.proofs.Closed.{pairs_few}
 use Rattle.search.proofs.Prefixes.{parts_some, unfit_closed}
 use Rattle.search.proofs.table.Tables.closes_misfit.Goals as goal
 
-pub sides-low-requires : goal.sides-low-requires
-sides-low-requires g c = omega (arith, pairs_few c.args.self.now.sheet.now.items c.args.self.now.sheet.now.few, c.requires.within)
-
 pub overflow_add-first : goal.overflow_add-first
 overflow_add-first g c =
-    let placed = c.sides-low.ensures.placed in
     let up = pairs_up c.sides-low.result.0 c.sides-low.result.1 c.sides-low.ensures.rising in
-    omega (arith, pairs_few c.args.self.now.sheet.now.items c.args.self.now.sheet.now.few, c.requires.within, placed, up, c.pairs-first.ensures, c.pairs-third.ensures)
+    omega (arith, c.args.self.now.sheet.now.fits, c.requires.within, c.sides-low.ensures.placed, up, c.pairs-first.ensures, c.pairs-third.ensures)
 
 pub slice_bounds-misfits-end : goal.slice_bounds-misfits-end
 slice_bounds-misfits-end g c =
-    let placed = c.sides-low.ensures.placed in
     let up = pairs_up c.sides-low.result.0 c.sides-low.result.1 c.sides-low.ensures.rising in
-    omega (arith, c.requires, placed, up, c.pairs-first.ensures, c.pairs-third.ensures)
+    omega (arith, c.requires, c.sides-low.ensures.placed, up, c.pairs-first.ensures, c.pairs-third.ensures)
 
 pub returns : goal.returns
 returns g c =

@@ -1,5 +1,5 @@
 -- By its cost and the bounds of the other pairs, or by the triples that its last pair closes.
-use Rattle.std.proofs.Common.{◌≡◌, ℕ, ◌+◌, ◌-◌, ◌<◌, ◌≤◌, Bool, false, ◌||◌, List, length, get_or, refl, ap, ◌∙◌, subst, arith, rules}
+use Rattle.std.proofs.Common.{◌≡◌, ℕ, ◌+◌, ◌-◌, ◌≤◌, Bool, false, ◌||◌, List, length, get_or, refl, ap, ◌∙◌, subst, arith}
 use Rattle.std.proofs.Math.Bool.{or-true, or-false}
 use Rattle.std.proofs.lemmas.List.{get_or_default}
 use Rattle.search.specs.Closed.{rows_of, rules_of}
@@ -7,17 +7,8 @@ use Rattle.search.specs.Tables.{spent_on, Owed}
 use Rattle.rules.specs.declared.row.Row.{Row}
 use Rattle.rules.specs.Steps.{Rules, refuted, unfit}
 use Rattle.points.specs.Scenarios.{pairs}
-use Rattle.search.proofs.Closed.{pairs_few}
 use Rattle.search.proofs.Prefixes.{unfit_zero, refuted_by, stands_fits}
 use Rattle.search.proofs.table.Tables.is_refuted.Goals as goal
-
-pub offset_bounds-self-length : goal.offset_bounds-self-length
-offset_bounds-self-length g c =
-    let h : c.args.length < 67 = omega (arith, pairs_few c.args.self.now.sheet.now.items c.args.self.now.sheet.now.few, c.requires.within) in
-    search rules
-
-pub bounds-self-length : goal.bounds-self-length
-bounds-self-length g c = omega (arith, pairs_few c.args.self.now.sheet.now.items c.args.self.now.sheet.now.few, c.requires.within, c.args.self.now.owed_long)
 
 -- What is owed by the table, and the prefix by its cost and by whether its triples fit.
 module _ {C : Type 0} (r : Rules C) (n : ℕ) (rows : List Row) (best : C) (a : List ℕ) (owed : List C) (long : length owed ≡ 67)
@@ -35,7 +26,7 @@ returns-then-at_most g c =
     let r = rules_of sheet g.K.Kind.fit g.T.Joins.joining g.T.Tally.order in
     let u : Bool = unfit r sheet.items c.args.length c.args.cursor.now in
     by_parts r sheet.items (rows_of sheet) c.args.best c.args.cursor.now tables.owed.now tables.owed_long tables.bounded
-    c.args.length c.requires.within (pairs_few sheet.items sheet.few) c.args.cost c.index-self-length.result c.join-bound.result u c.at_most.result
+    c.args.length c.requires.within (sheet.fits) c.args.cost c.index-self-length.result c.join-bound.result u c.at_most.result
     c.requires.cost c.join-bound.ensures refl c.at_most.ensures
     ∙ ap (λ (v : Bool). u || v) c.if-at_most.true ∙ or-true u
 
@@ -45,7 +36,7 @@ returns-then-length-eq0 g c =
     let sheet = c.args.self.now.sheet.now in
     let r = rules_of sheet g.K.Kind.fit g.T.Joins.joining g.T.Tally.order in
     by_parts r sheet.items (rows_of sheet) c.args.best c.args.cursor.now tables.owed.now tables.owed_long tables.bounded
-    c.args.length c.requires.within (pairs_few sheet.items sheet.few) c.args.cost c.index-self-length.result c.join-bound.result false c.at_most.result
+    c.args.length c.requires.within (sheet.fits) c.args.cost c.index-self-length.result c.join-bound.result false c.at_most.result
     c.requires.cost c.join-bound.ensures
     (ap (λ (z : ℕ). unfit r sheet.items z c.args.cursor.now) c.if-length-eq0.true ∙ unfit_zero r sheet.items c.args.cursor.now) c.at_most.ensures
     ∙ c.if-at_most.false
@@ -60,6 +51,6 @@ returns g c =
     let before = stands_fits r sheet.items (rows_of sheet) c.args.best a (c.args.length - 1) (c.requires.stands (c.args.length - 1) (omega (arith, c.if-length-eq0.false))) in
     let closed = subst (λ (z : ℕ). unfit r sheet.items z a ≡ c.closes_misfit.result) up (c.closes_misfit.ensures before) in
     by_parts r sheet.items (rows_of sheet) c.args.best a tables.owed.now tables.owed_long tables.bounded
-    c.args.length c.requires.within (pairs_few sheet.items sheet.few) c.args.cost c.index-self-length.result c.join-bound.result c.closes_misfit.result c.at_most.result
+    c.args.length c.requires.within (sheet.fits) c.args.cost c.index-self-length.result c.join-bound.result c.closes_misfit.result c.at_most.result
     c.requires.cost c.join-bound.ensures closed c.at_most.ensures
     ∙ ap (λ (v : Bool). c.closes_misfit.result || v) c.if-at_most.false ∙ or-false c.closes_misfit.result

@@ -1,5 +1,5 @@
 -- The cost of the prefix before it, joined with that of its last pair.
-use Rattle.std.proofs.Common.{◌≡◌, ℕ, ◌+◌, ◌-◌, ◌*◌, ◌<◌, get_or, ap, ◌∙◌, arith, rules}
+use Rattle.std.proofs.Common.{◌≡◌, ℕ, ◌+◌, ◌-◌, ◌*◌, ◌<◌, get_or, ap, ◌∙◌, arith}
 use Rattle.std.proofs.ByRecursion.{All-get_or}
 use Rattle.std.proofs.lemmas.List.{get_or_default}
 use Rattle.points.specs.Scenarios.{pairs}
@@ -7,42 +7,9 @@ use Rattle.rules.specs.Costs.{pair_cost}
 use Rattle.search.specs.Closed.{rows_of}
 use Rattle.search.specs.Tables.{spent_on}
 use Rattle.rules.proofs.Properly.{proper_is}
-use Rattle.search.proofs.Closed.{pairs_few}
 use Rattle.rules.proofs.Costs.{pairs_push}
 use Rattle.search.proofs.Loops.{turn_joins}
 use Rattle.search.proofs.table.Tables.prefix_cost.Goals as goal
-
-pub offset_bounds-spent-last : goal.offset_bounds-spent-last
-offset_bounds-spent-last g c =
-    let few = pairs_few c.args.self.now.sheet.now.items c.args.self.now.sheet.now.few in
-    let h : c.args.length - 1 < 67 = omega (arith, few, c.requires.within) in
-    search rules
-
-pub bounds-spent-last : goal.bounds-spent-last
-bounds-spent-last g c = omega (arith, pairs_few c.args.self.now.sheet.now.items c.args.self.now.sheet.now.few, c.requires.within, c.requires.long)
-
-pub overflow_mul-last : goal.overflow_mul-last
-overflow_mul-last g c = omega (arith, pairs_few c.args.self.now.sheet.now.items c.args.self.now.sheet.now.few, c.requires.within)
-
-pub overflow_add-last : goal.overflow_add-last
-overflow_add-last g c =
-    let sheet = c.args.self.now.sheet.now in
-    let code = All-get_or (λ z. z < sheet.codes) c.args.cursor.now (c.args.length - 1) 0 (omega (arith, c.requires.cursor.0, c.requires.within, c.if-length-eq0.false)) c.requires.cursor.1 in
-    omega (arith, pairs_few sheet.items sheet.few, c.requires.within, code, sheet.narrow)
-
-pub offset_bounds-self-last : goal.offset_bounds-self-last
-offset_bounds-self-last g c =
-    let sheet = c.args.self.now.sheet.now in
-    let code = All-get_or (λ z. z < sheet.codes) c.args.cursor.now (c.args.length - 1) 0 (omega (arith, c.requires.cursor.0, c.requires.within, c.if-length-eq0.false)) c.requires.cursor.1 in
-    let h : (c.args.length - 1) * 64 + get_or c.args.cursor.now (c.args.length - 1) 0 < 4224 =
-    omega (arith, pairs_few sheet.items sheet.few, c.requires.within, code, sheet.narrow, c.if-length-eq0.false) in
-    search rules
-
-pub bounds-self-last : goal.bounds-self-last
-bounds-self-last g c =
-    let sheet = c.args.self.now.sheet.now in
-    let code = All-get_or (λ z. z < sheet.codes) c.args.cursor.now (c.args.length - 1) 0 (omega (arith, c.requires.cursor.0, c.requires.within, c.if-length-eq0.false)) c.requires.cursor.1 in
-    omega (arith, pairs_few sheet.items sheet.few, c.requires.within, code, sheet.narrow, c.if-length-eq0.false, c.args.self.now.prices_long)
 
 pub returns : goal.returns
 returns g c =
@@ -51,7 +18,7 @@ returns g c =
     let j = g.T.Joins.joining in
     let rows = rows_of sheet in
     let a = c.args.cursor.now in
-    let few = pairs_few c.args.self.now.sheet.now.items c.args.self.now.sheet.now.few in
+    let few = c.args.self.now.sheet.now.fits in
     let last : ℕ = c.args.length - 1 in
     let inside : c.args.length - 1 < pairs c.args.self.now.sheet.now.items = omega (arith, c.requires.within, c.if-length-eq0.false) in
     let code : get_or c.args.cursor.now (c.args.length - 1) 0 < c.args.self.now.sheet.now.codes =

@@ -1,11 +1,10 @@
 -- One more prefix with each turn.
-use Rattle.std.proofs.Common.{◌≡◌, ℕ, ◌+◌, ◌<◌, ◌≤◌, sym, ◌∙◌, subst, arith, rules, below_more}
+use Rattle.std.proofs.Common.{◌≡◌, ℕ, ◌+◌, ◌≤◌, sym, ◌∙◌, subst, arith, below_more}
 use Rattle.std.proofs.lemmas.List.{length-set}
 use Rattle.points.specs.Scenarios.{pairs}
 use Rattle.search.specs.Closed.{rows_of, rules_of}
 use Rattle.search.specs.Tables.{Known}
 use Rattle.rules.specs.Steps.{refuted}
-use Rattle.search.proofs.Closed.{pairs_few}
 use Rattle.search.proofs.Prefixes.{spent_more}
 use Rattle.rules.proofs.Advances.{first_at, first_past}
 use Rattle.search.proofs.table.Tables.shortest.Goals as goal
@@ -18,22 +17,13 @@ prefix_cost-cost-requires g c = record {
   known = c.loop-length.invariant.costs;
 }
 
-pub offset_bounds-spent-length : goal.offset_bounds-spent-length
-offset_bounds-spent-length g c =
-    let h : c.loop-length.length < 67 = omega (arith, pairs_few c.args.self.now.sheet.now.items c.args.self.now.sheet.now.few, c.loop-length-test.true, c.requires.cursor.0) in
-    search rules
-
-pub bounds-spent-length : goal.bounds-spent-length
-bounds-spent-length g c =
-    omega (arith, pairs_few c.args.self.now.sheet.now.items c.args.self.now.sheet.now.few, c.loop-length-test.true, c.requires.cursor.0, c.loop-length.invariant.long)
-
 pub returns-then-is_refuted : goal.returns-then-is_refuted
 returns-then-is_refuted g c =
     let sheet = c.args.self.now.sheet.now in
     let r = rules_of sheet g.K.Kind.fit g.T.Joins.joining g.T.Tally.order in
     let a = c.args.cursor.now in
     let known = c.loop-length.invariant in
-    let few = pairs_few sheet.items sheet.few in
+    let few = sheet.fits in
     let within : c.loop-length.length ≤ pairs c.args.self.now.sheet.now.items = omega (arith, c.loop-length-test.true, c.requires.cursor.0) in
     let noted = spent_more g.T.Joins.joining (rows_of sheet) a c.loop-length.spent c.loop-length.length c.prefix_cost-cost.result
     (omega (arith, few, within, known.long)) known.costs c.prefix_cost-cost.ensures in
@@ -52,7 +42,7 @@ pub loop-length-preserved : goal.loop-length-preserved
 loop-length-preserved g c =
     let sheet = c.args.self.now.sheet.now in
     let known = c.loop-length.invariant in
-    let few = pairs_few sheet.items sheet.few in
+    let few = sheet.fits in
     let within : c.loop-length.length ≤ pairs c.args.self.now.sheet.now.items = omega (arith, c.loop-length-test.true, c.requires.cursor.0) in
     record {
       long = length-set c.loop-length.spent c.loop-length.length c.prefix_cost-cost.result ∙ known.long;

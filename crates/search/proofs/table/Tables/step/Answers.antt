@@ -1,17 +1,16 @@
 -- A step past the shortest refuted prefix, or to a better incumbent.
-use Rattle.std.proofs.Common.{◌≡◌, ℕ, ◌+◌, ◌^◌, ◌<◌, ◌≤◌, Option, IfNone, List, length, get_or, sym, refl, ap, ◌∙◌, subst, arith, rules}
+use Rattle.std.proofs.Common.{◌≡◌, ℕ, ◌+◌, ◌^◌, ◌≤◌, List, length, sym, ap, ◌∙◌, subst, arith}
 use Rattle.std.proofs.lemmas.List.{get_or_default}
 use Rattle.points.specs.Scenarios.{pairs, entry}
 use Rattle.rules.specs.declared.row.Row.{Row}
 use Rattle.rules.specs.Costs.{cost}
 use Rattle.rules.specs.Orders.{index, past}
-use Rattle.rules.specs.Steps.{Position, position, step}
+use Rattle.rules.specs.Steps.{position, step}
 use Rattle.rules.proofs.Properly.{proper_is}
 use Rattle.rules.proofs.Costs.{pairs_join}
 use Rattle.rules.proofs.Advances.{step_skips, step_holds}
 use Rattle.search.specs.Closed.{rows_of, rules_of}
 use Rattle.search.specs.Tables.{spent_on}
-use Rattle.search.proofs.Closed.{pairs_few}
 use Rattle.search.proofs.Prefixes.{stands_kept, spent_kept}
 use Rattle.search.proofs.table.Tables.step.Goals as goal
 
@@ -47,15 +46,6 @@ returns-in_err-filled-in-None-clause-ends g c =
     (ended_at sheet.codes (pairs sheet.items) (pairs sheet.items) (index sheet.codes a) a c.requires.long.1
     (ap (λ (z : ℕ). past sheet.codes (length a) z (index sheet.codes a)) (sym c.requires.long.1) ∙ c.in_err-filled-in-None.ensures.ended)) in
     rw c.from_residual-in_err-filled-in-None.ensures is
-
-pub offset_bounds-spent-count : goal.offset_bounds-spent-count
-offset_bounds-spent-count g c =
-    let h : length c.args.cursor.now < 67 = omega (arith, pairs_few c.args.self.now.sheet.now.items c.args.self.now.sheet.now.few, c.requires.long.1) in
-    search rules
-
-pub bounds-spent-count : goal.bounds-spent-count
-bounds-spent-count g c =
-    omega (arith, pairs_few c.args.self.now.sheet.now.items c.args.self.now.sheet.now.few, c.requires.long.1, c.shortest.auto.spent, c.requires.keeps.known.long)
 
 pub returns-in_ok-risen-in-Some-clause-goes_on : goal.returns-in_ok-risen-in-Some-clause-goes_on
 returns-in_ok-risen-in-Some-clause-goes_on g c =
@@ -109,7 +99,7 @@ returns-in_ok-filled-in-None-clause-keeps g c =
     let j = g.T.Joins.joining in
     let rows : List Row = rows_of sheet in
     let a : List ℕ = c.args.cursor.now in
-    let few = pairs_few c.args.self.now.sheet.now.items c.args.self.now.sheet.now.few in
+    let few = c.args.self.now.sheet.now.fits in
     let known = c.in-None.ensures.known in
     let best : c.index-spent-count.result ≡ cost j rows (entry c.copy_from_slice.new.self) =
     c.index-spent-count.is
