@@ -1,16 +1,13 @@
 -- One line on in the search for a head.
-use Rattle.std.proofs.Common.{◌≡◌, ℕ, suc, ◌+◌, ◌-◌, ◌≤◌, true, false, not, cond, ◌&&◌, eqb, leb, List, [], ◌∷◌, length, get_or, drop, Some, None, Ok, Err, Option, Result, sym, refl, ap, ◌∙◌, subst, arith}
+use Rattle.std.proofs.Common.{◌≡◌, ℕ, suc, ◌+◌, ◌-◌, ◌≤◌, true, false, not, cond, ◌&&◌, eqb, leb, List, [], ◌∷◌, length, get_or, drop, None, Ok, Err, Option, Result, sym, refl, ap, ◌∙◌, subst, arith}
 use Rattle.std.proofs.lemmas.Bool.Decides.{nat_tests}
 use Rattle.std.proofs.lemmas.List.{drop-drop}
 use Rattle.files.specs.declared.fault.Place.{Place}
 use Rattle.files.specs.declared.fault.SheetFault.{SheetFault}
 use Rattle.files.specs.declared.head.Head.{Head}
 use Rattle.files.specs.Heads.{is_head, head_in}
-use Rattle.files.specs.Faults.{placed_at}
-use Rattle.files.specs.declared.fault.At.{At}
-use Rattle.files.specs.declared.fault.LineFault.{LineFault}
 use Rattle.files.specs.Sheets.{before, onward, head_place, located, stray_fault, next_head, class_of, state_of}
-use Rattle.files.specs.declared.class.Class.TheVariants.{HeadLine, StatementLine}
+use Rattle.files.specs.declared.class.Class.TheVariants.{StatementLine}
 use Rattle.files.specs.declared.class.State.TheVariants.{InSheet}
 use Rattle.std.proofs.lemmas.Bool.{cond-false, and_left, ne_eqb}
 
@@ -90,39 +87,8 @@ passed p q ls ms ns l s e h z =
       read = one_read p q ls ms ns l s.from s.read e;
     }
 
--- a head is come to
-module _ (p q : Place) (ls ms ns : List (List ℕ)) (l : List ℕ) (s : Same p ls q ms) (e : ms ≡ l ∷ ns) (h : is_head l ≡ true) where
-  pub answer_at_head : located (record { sheet = q.sheet + 1; line = q.line + 1 }) (head_in l) ≡ next_head p ls
-  answer_at_head =
-      let z : q.line + 1 ≡ q.line + 0 + 1 = omega arith in
-      ap (λ n. located (record { sheet = q.sheet + 1; line = n }) (head_in l)) z
-      ∙ sym (at_head q l ns h) ∙ ap (next_head q) (sym e) ∙ s.answer
-
-  none_before : before ms ≡ 0
-  none_before = ap before e ∙ before_head l ns h
-
-  pub place_of_head : record { sheet = q.sheet + 1; line = q.line + 1 } ≡ head_place p (before ls)
-  place_of_head =
-      let n : q.line + 1 ≡ p.line + before ls + 1 = omega (arith, none_before, s.head) in
-      ap (λ x. record { sheet = x + 1; line = q.line + 1 }) s.sheet ∙ ap (λ x. record { sheet = p.sheet + 1; line = x }) n
-
-  pub head_rest : ns ≡ drop (before ls + 1) ls
-  head_rest = ap (drop 1) (sym e) ∙ ap (λ k. drop (k + 1) ms) (sym none_before) ∙ s.rest
-
-pub head_known : (l : List ℕ) → class_of l ≡ HeadLine → is_head l ≡ true
-head_known l e = grind (arith, nat_tests)
-
 pub no_head : (l : List ℕ) → class_of l ≡ StatementLine → is_head l ≡ false
 no_head l e = grind (arith, nat_tests)
-
--- a head that was read, and one that is unfit
-pub located_ok : (p : Place) (h : Head) (r : Result Head LineFault) → Ok h ≡ placed_at p r → Ok (Some h) ≡ located p r
-located_ok p h (Ok g) e = cc
-located_ok p h (Err f) e = cc
-
-pub located_err : (p : Place) (f : At Place LineFault) (r : Result Head LineFault) → Err f ≡ placed_at p r → Err (record { place = f.place; fault = f.fault }) ≡ located p r
-located_err p f (Ok g) e = cc
-located_err p f (Err g) e = cc
 
 -- a sheet has begun
 pub some_sheet : (p : Place) → state_of p ≡ InSheet → p.sheet ≡ 0 → ⊥

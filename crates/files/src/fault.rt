@@ -1,5 +1,5 @@
 // Why a file is refused, and where.
-ghost use Rattle.std.specs.Prelude.{◌≡◌, Ok, Err};
+ghost use Rattle.std.specs.Prelude.{◌≡◌};
 ghost use Rattle.files.specs.declared.fault.LineFault.TheVariants.{Field, Draft};
 ghost use Rattle.files.specs.Faults.{placed_at, fault_number, fault_field};
 
@@ -75,6 +75,7 @@ pub struct SheetFault {
     pub fault: LineFault,
 }
 
+// A caller asks the fault of a sheet as it asks that of a line, so the two calls stand here too.
 impl SheetFault {
     /// The number of the fault.
     pub fn number(&self) -> u8

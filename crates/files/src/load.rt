@@ -1,11 +1,10 @@
 // Loads a sheet's statements into a draft.
-ghost use Rattle.std.specs.Prelude.{◌≡◌, Bool};
+ghost use Rattle.std.specs.Prelude.{◌≡◌};
 ghost use Rattle.files.specs.Drafts.{line_fault, row_in, refusal_field, refused_at, Entered, entry_refusal};
 ghost use Rattle.files.specs.Loads.{body, body_fault, rows_in, Loaded};
 ghost use Rattle.files.specs.Faults.{answered};
 ghost use Rattle.files.specs.Views.{ahead_of};
 ghost use Rattle.files.specs.Words.{spelled};
-ghost use Rattle.rules.specs.Properly.{between};
 ghost use Rattle.statements.specs.Drafts.{row_of};
 
 use crate::fault::{At, LineFault, Place, SheetFault, placed};
@@ -72,6 +71,7 @@ pub fn load_body<K: Kind + Notation, T: Tally + TallyLetter>(
     ensures size { draft.new.items ≡ draft.old.items }
     ensures loaded { Loaded result (rows_in (spelled K.Kind.meaning K.Notation.words K.Notation.initial T.TallyLetter.initial) (body (ahead_of spot.old))) spot.old.place (ahead_of spot.old) draft.old.rows.items spot.new.place (ahead_of spot.new) draft.new.rows.items }
 {
+    // No `for`: the spot, which gives the lines, has the place of each as well.
     while let Some(line) = spot.next_statement() {
         placed(spot.place, enter_line(draft, line))?;
     }

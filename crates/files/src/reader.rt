@@ -18,7 +18,7 @@ pub struct Spot<'a> {
 /// loaded or the next head is asked for. No refusal moves the reader: asked again, it gives the same fault.
 #[derive(Drop)]
 pub struct Reader<'a> {
-    // None for a file that is too long.
+    // There is none in a file that is too long.
     pub(crate) spot: Option<Spot<'a>>,
     pub(crate) waiting: Option<Head>,
 }

@@ -52,6 +52,7 @@ impl<'a> Spot<'a> {
         ensures answer { result ≡ next_head self.old.place (ahead_of self.old) }
         ensures moved { Moved self.old.place (ahead_of self.old) result self.new.place (ahead_of self.new) }
     {
+        // No `for`: the place moves on with the lines, and both are the spot's.
         while let Some(line) = self.ahead.next() {
             self.place.line += 1;
             match (self.state(), class_of(line)) {
@@ -60,6 +61,7 @@ impl<'a> Spot<'a> {
                     let head = placed(self.place, parse_head(line))?;
                     return Ok(Some(head));
                 }
+                // Nothing failed here that `?` could pass up: the line itself is the fault.
                 (State::NoSheet, Class::StatementLine) => {
                     return Err(SheetFault {
                         place: self.place,

@@ -9,17 +9,6 @@ use Rattle.files.proofs.words.set_of.Goals as goal
 pub returns-then-is_empty-clause-set : goal.returns-then-is_empty-clause-set
 returns-then-is_empty-clause-set g c = sym (no_words (code_of g.K.Kind.meaning.codes g.K.Notation.words) c.args.field.now (true-eqb _ 0 c.if-is_empty.ensures))
 
-pub returns-then-is_empty-clause-of_kind : goal.returns-then-is_empty-clause-of_kind
-returns-then-is_empty-clause-of_kind g c =
-    let m = g.K.Kind.meaning in
-    let code = code_of m.codes g.K.Notation.words in
-    only_codes m.codes g.K.Notation.words c.args.field.now (Ok 0) (sym (no_words code c.args.field.now (true-eqb _ 0 c.if-is_empty.ensures)))
-
-pub returns-then-is_empty-clause-named : goal.returns-then-is_empty-clause-named
-returns-then-is_empty-clause-named g c =
-    let code = code_of g.K.Kind.meaning.codes g.K.Notation.words in
-    just_named code c.args.field.now (Ok 0) (sym (no_words code c.args.field.now (true-eqb _ 0 c.if-is_empty.ensures)))
-
 pub returns-clause-of_kind : goal.returns-clause-of_kind
 returns-clause-of_kind g c =
     let m = g.K.Kind.meaning in
