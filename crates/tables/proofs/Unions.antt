@@ -1,20 +1,22 @@
 -- Sets of one base relation, and unions of sets of base relations, as bits.
-use Rattle.std.proofs.Common.{◌≡◌, ℕ, ◌+◌, ◌^◌, ◌<◌, ◌≤◌, true, false, Decides, sym, ◌∙◌, subst, inl, inr, arith}
+use Rattle.std.proofs.Common.{◌≡◌, ℕ, ◌+◌, ◌^◌, ◌<◌, ◌≤◌, Bool, true, false, Decides, Option, cond, List, [], ◌∷◌, ◌++◌, sym, refl, ◌∙◌, subst, inl, inr, arith, zero-add}
+use Rattle.std.specs.List.{All, Contains, FoldsTo, filter, range_with_len}
+use Rattle.std.specs.Iterator.{Drains}
+use Rattle.std.specs.Fn.{Called}
+use denote.Param.Members.{Mut}
+use Rattle.std.proofs.lemmas.Iterator.{YieldsList}
+use Rattle.std.proofs.lemmas.Fn.{fold_over}
+use Rattle.std.proofs.lemmas.List.Elements.{All-contains, All-from_get_or, Contains-append_cases, Contains-append_left, Contains-append_right, Contains-get_or, Contains-push, Contains-push_cases, filter_passes}
+use Rattle.std.proofs.lemmas.List.FromFn.{get_or-range_with_len, length-range_with_len}
 use lib.Bits.{bit_or}
-use Rattle.std.proofs.lemmas.Bool.{both_ways, cases_lt, cases_order, eqb-true, eq-eqb, or_cases, or_left, or_right}
+use Rattle.std.proofs.lemmas.Bool.{both_ways, cases_Bool, cases_lt, eqb-true, eq-eqb, or_cases, or_left, or_right}
 use Rattle.points.specs.Sets.{has}
 use Rattle.points.proofs.United.{has_none, has_single, has_union}
 use Rattle.points.proofs.Tabled.{has_beyond}
-use Rattle.tables.specs.Relations.{Single}
+use Rattle.tables.specs.Relations.{Single, Union}
 
 never : (c : ℕ) → c < 0 → ⊥
 never c l = omega arith
-
-between : (c n : ℕ) → c < n + 1 → n < c → ⊥
-between c n l o = omega arith
-
-below_next : (c n : ℕ) → c < n → c < n + 1
-below_next c n l = omega arith
 
 -- the set of one base relation
 pub single_bit : (c : ℕ) → c < 64 → Single c (2 ^ c)
@@ -23,45 +25,50 @@ single_bit c small e = (
   λ p. has_single c e ∙ eq-eqb e c p.0,
 )
 
--- The set has exactly the codes e that some member c below n gives.
-abbrev pub Union : ℕ → (ℕ → ℕ → Type 0) → ℕ → ℕ → Type 0
-Union members Gives n set = (e : ℕ) → Decides (has set e) ((c : ℕ) × (c < n) × (has members c ≡ true) × Gives c e)
+-- The union of the sets that are given at the items of a list
+abbrev pub Over : (ℕ → ℕ → Type 0) → List ℕ → ℕ → Type 0
+Over Gives items set =
+    ((e : ℕ) → has set e ≡ true → (c : ℕ) × Contains items c × (given : ℕ) × Gives c given × (has given e ≡ true))
+    × ((c : ℕ) → Contains items c → (given : ℕ) × Gives c given × ((e : ℕ) → has given e ≡ true → has set e ≡ true))
 
-pub union_none : (members : ℕ) (Gives : ℕ → ℕ → Type 0) → Union members Gives 0 0
-union_none members Gives e = (λ p. absurd (both_ways (has 0 e) (has_none e) p), λ some. absurd (never some.0 some.1))
+pub over_none : (Gives : ℕ → ℕ → Type 0) → Over Gives [] 0
+over_none Gives = (λ e p. absurd (both_ways (has 0 e) (has_none e) p), λ c i. absurd (never i.0 i.1))
 
--- n is a member, and gives the codes of a set
-pub union_more : (members : ℕ) (Gives : ℕ → ℕ → Type 0) (n set more : ℕ) → true ≡ has members n → Union members Gives n set →
-    ((e : ℕ) → Decides (has more e) (Gives n e)) → Union members Gives (n + 1) (bit_or set more)
-union_more members Gives n set more is old new e = (forth, back)
+pub over_more : (Gives : ℕ → ℕ → Type 0) (items : List ℕ) (set n more : ℕ) → Over Gives items set → Gives n more →
+    Over Gives (items ++ n ∷ []) (bit_or set more)
+over_more Gives items set n more old new = (forth, back)
   where
-    forth : has (bit_or set more) e ≡ true → (c : ℕ) × (c < n + 1) × (has members c ≡ true) × Gives c e
-    forth p = elim (or_cases (has set e) (has more e) (sym (has_union set more e) ∙ p)) [
-      | inl q ↦ (let some = (old e).0 q in (some.0, below_next some.0 n some.1, some.2, some.3))
-      | inr q ↦ (n, omega arith, sym is, (new e).0 q)
+    forth : (e : ℕ) → has (bit_or set more) e ≡ true → (c : ℕ) × Contains (items ++ n ∷ []) c × (given : ℕ) × Gives c given × (has given e ≡ true)
+    forth e p = elim (or_cases (has set e) (has more e) (sym (has_union set more e) ∙ p)) [
+      | inl q ↦ (let (c, i, given, gives, h) = old.0 e q in (c, Contains-append_left items (n ∷ []) c i, given, gives, h))
+      | inr q ↦ (n, Contains-push items n, more, new, q)
     ]
 
-    back : ((c : ℕ) × (c < n + 1) × (has members c ≡ true) × Gives c e) → has (bit_or set more) e ≡ true
-    back some = elim (cases_order some.0 n) [
-      | inl same ↦ has_union set more e ∙ or_right (has set e) (has more e) ((new e).1 (subst (λ (c : ℕ). Gives c e) same some.3))
-      | inr (inl below) ↦ has_union set more e ∙ or_left (has set e) (has more e) ((old e).1 (some.0, below, some.2, some.3))
-      | inr (inr above) ↦ absurd (between some.0 n some.1 above)
+    wider : (given : ℕ) → ((e : ℕ) → has given e ≡ true → has set e ≡ true) → (e : ℕ) → has given e ≡ true → has (bit_or set more) e ≡ true
+    wider given within e h = has_union set more e ∙ or_left (has set e) (has more e) (within e h)
+
+    here : (c : ℕ) → n ≡ c → (given : ℕ) × Gives c given × ((e : ℕ) → has given e ≡ true → has (bit_or set more) e ≡ true)
+    here c same = (more, subst (λ (k : ℕ). Gives k more) same new, λ e h. has_union set more e ∙ or_right (has set e) (has more e) h)
+
+    back : (c : ℕ) → Contains (items ++ n ∷ []) c → (given : ℕ) × Gives c given × ((e : ℕ) → has given e ≡ true → has (bit_or set more) e ≡ true)
+    back c i = elim (Contains-push_cases items n c i) [
+      | inl before ↦ (let (given, gives, within) = old.1 c before in (given, gives, wider given within))
+      | inr same ↦ here c same
     ]
 
--- n is no member
-pub union_same : (members : ℕ) (Gives : ℕ → ℕ → Type 0) (n set : ℕ) → false ≡ has members n → Union members Gives n set →
-    Union members Gives (n + 1) set
-union_same members Gives n set out old e = (forth, back)
+-- a fold whose closure unites what it has with a set that is given at the item
+pub over_fold : {S F : Type 0} {steps : S → Option ℕ → S → Type 0} {g : Mut F (ℕ × (ℕ × Unit {0})) ℕ} {f : F} {s : S} {r : ℕ} →
+    (xs : List ℕ) × (f' : F) × Drains steps s xs × FoldsTo {P = F × ℕ} (λ p x q. Called g p.0 (p.1, (x, tt)) q.1 q.0) (f, 0) xs (f', r) →
+    (Gives : ℕ → ℕ → Type 0) (items : List ℕ) → YieldsList steps (λ x. x) s items →
+    ((a n b : ℕ) (f' : F) → Called g f (a, (n, tt)) b f' → (f' ≡ f) × ((given : ℕ) × Gives n given × (b ≡ bit_or a given))) →
+    Over Gives items r
+over_fold {S} {F} {steps} {g} {f} {s} {r} ran Gives items yields calls =
+    fold_over steps (λ x. x) g (Over Gives) f step s items 0 r yields.runs (over_none Gives) ran
   where
-    forth : has set e ≡ true → (c : ℕ) × (c < n + 1) × (has members c ≡ true) × Gives c e
-    forth p = let some = (old e).0 p in (some.0, below_next some.0 n some.1, some.2, some.3)
-
-    back : ((c : ℕ) × (c < n + 1) × (has members c ≡ true) × Gives c e) → has set e ≡ true
-    back some = elim (cases_order some.0 n) [
-      | inl same ↦ absurd (both_ways (has members n) (sym out) (subst (λ (c : ℕ). has members c ≡ true) same some.2))
-      | inr (inl below) ↦ (old e).1 (some.0, below, some.2, some.3)
-      | inr (inr above) ↦ absurd (between some.0 n some.1 above)
-    ]
+    step : (ys : List ℕ) (a x b : ℕ) (f' : F) → Over Gives ys a → Called g f (a, (x, tt)) b f' → Over Gives (ys ++ x ∷ []) b × (f' ≡ f)
+    step ys a x b f' over called =
+        let (same, (given, gives, is)) = calls a x b f' called in
+        (subst (Over Gives (ys ++ x ∷ [])) (sym is) (over_more Gives ys a x given over gives), same)
 
 -- a member of a set of 64 bits is below 64
 member_below : (set c : ℕ) → set < 2 ^ 64 → has set c ≡ true → c < 64
@@ -70,43 +77,51 @@ member_below set c small p = elim (cases_lt c 64) [
   | inr l ↦ absurd (both_ways (has set c) (has_beyond set 64 c small l) p)
 ]
 
--- all members of a set of 64 bits
-pub union_all : (members : ℕ) (Gives : ℕ → ℕ → Type 0) (n set : ℕ) → members < 2 ^ 64 → 64 ≤ n → Union members Gives n set →
-    (e : ℕ) → Decides (has set e) ((c : ℕ) × (has members c ≡ true) × Gives c e)
-union_all members Gives n set small done all e = (
-  λ p. let some = (all e).0 p in (some.0, some.2, some.3),
-  λ some. (all e).1 (some.0, within some.0 (member_below members some.0 small some.1), some.1, some.2),
+-- the members of a set of 64 bits, in the order of their codes
+abbrev pub members : ℕ → List ℕ
+members set = filter (has set) (range_with_len 0 64)
+
+Contains-filter : (p : ℕ → Bool) (xs : List ℕ) (x : ℕ) → Contains xs x → p x ≡ true → Contains (filter p xs) x
+Contains-filter p [] x i h = absurd (never i.0 i.1)
+Contains-filter p (y ∷ ys) x i h = elim (cases_Bool (p y)) [
+  | inl passes ↦ subst (λ (b : Bool). Contains (cond b (y ∷ filter p ys) (filter p ys)) x) (sym passes) (elim (Contains-append_cases (y ∷ []) ys x i) [
+    | inl first ↦ Contains-append_left (y ∷ []) (filter p ys) x first
+    | inr later ↦ Contains-append_right (y ∷ []) (filter p ys) x (Contains-filter p ys x later h)
+  ])
+  | inr fails ↦ subst (λ (b : Bool). Contains (cond b (y ∷ filter p ys) (filter p ys)) x) (sym fails) (elim (Contains-append_cases (y ∷ []) ys x i) [
+    | inl first ↦ elim (Contains-push_cases [] y x first) [
+      | inl nowhere ↦ absurd (never nowhere.0 nowhere.1)
+      | inr same ↦ absurd (both_ways (p y) fails (subst (λ (k : ℕ). p k ≡ true) (sym same) h))
+    ]
+    | inr later ↦ Contains-filter p ys x later h
+  ])
+]
+
+range_contains : (n c : ℕ) → c < n → Contains (range_with_len 0 n) c
+range_contains n c l =
+    subst (Contains (range_with_len 0 n)) (get_or-range_with_len 0 n c 0 l ∙ zero-add c)
+    (Contains-get_or (range_with_len 0 n) c 0 (subst (λ (k : ℕ). c < k) (sym (length-range_with_len 0 n)) l))
+
+is_member : (set c : ℕ) → Contains (members set) c → has set c ≡ true
+is_member set c i = All-contains (λ (k : ℕ). has set k ≡ true) (members set) c (filter_passes (has set) (range_with_len 0 64)) i
+
+member_is : (set c : ℕ) → set < 2 ^ 64 → has set c ≡ true → Contains (members set) c
+member_is set c small h = Contains-filter (has set) (range_with_len 0 64) c (range_contains 64 c (member_below set c small h)) h
+
+-- the union over the list of the members is that over the set
+pub over_members : (Gives : ℕ → ℕ → Type 0) (items set : ℕ) → items < 2 ^ 64 → Over Gives (members items) set → Union items Gives set
+over_members Gives items set small over = (
+  λ e p. let (c, i, given, gives, h) = over.0 e p in (c, is_member items c i, given, gives, h),
+  λ c h. over.1 c (member_is items c small h),
+)
+
+-- the union of the sets of one code over the codes of a kind, which has at most 64
+pub over_codes : (codes set : ℕ) → codes ≤ 64 → Over Single (range_with_len 0 codes) set → (e : ℕ) → Decides (has set e) (e < codes)
+over_codes codes set few over e = (
+  λ p. let (c, i, given, one, h) = over.0 e p in subst (λ (k : ℕ). k < codes) (sym ((one e).0 h).0) (All-contains (λ k. k < codes) (range_with_len 0 codes) c all i),
+  λ l. let (given, one, within) = over.1 e (range_contains codes e l) in within e ((one e).1 (refl, omega (arith, l, few))),
 )
   where
-    within : (c : ℕ) → c < 64 → c < n
-    within c l = omega arith
-
--- The set has exactly the codes e below n, and below 64.
-abbrev pub Below : ℕ → ℕ → Type 0
-Below n set = (e : ℕ) → Decides (has set e) ((e < n) × (e < 64))
-
-pub below_none : Below 0 0
-below_none e = (λ p. absurd (both_ways (has 0 e) (has_none e) p), λ some. absurd (never e some.0))
-
-pub below_more : (n set one : ℕ) → Below n set → Single n one → Below (n + 1) (bit_or set one)
-below_more n set one old new e = (forth, back)
-  where
-    forth : has (bit_or set one) e ≡ true → (e < n + 1) × (e < 64)
-    forth p = elim (or_cases (has set e) (has one e) (sym (has_union set one e) ∙ p)) [
-      | inl q ↦ (let small = (old e).0 q in (below_next e n small.0, small.1))
-      | inr q ↦ (let same = (new e).0 q in (omega (arith, same.0), omega (arith, same.0, same.1)))
-    ]
-
-    back : (e < n + 1) × (e < 64) → has (bit_or set one) e ≡ true
-    back some = elim (cases_order e n) [
-      | inl same ↦ has_union set one e ∙ or_right (has set e) (has one e) ((new e).1 (same, omega (arith, same, some.1)))
-      | inr (inl below) ↦ has_union set one e ∙ or_left (has set e) (has one e) ((old e).1 (below, some.1))
-      | inr (inr above) ↦ absurd (between e n some.0 above)
-    ]
-
--- all codes of a kind that has at most 64
-pub below_all : (n codes set : ℕ) → n ≤ codes → codes ≤ n → codes ≤ 64 → Below n set → (e : ℕ) → Decides (has set e) (e < codes)
-below_all n codes set most all few below e = (
-  λ p. omega (arith, ((below e).0 p).0, most),
-  λ l. (below e).1 (omega (arith, l, all), omega (arith, l, few)),
-)
+    all : All (λ k. k < codes) (range_with_len 0 codes)
+    all = All-from_get_or (λ k. k < codes) (range_with_len 0 codes) 0 (λ i l. let below : i < codes = subst (λ (n : ℕ). i < n) (length-range_with_len 0 codes) l in
+      subst (λ (k : ℕ). k < codes) (sym (get_or-range_with_len 0 codes i 0 below ∙ zero-add i)) below)

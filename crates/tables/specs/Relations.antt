@@ -30,3 +30,10 @@ CompositionsFrom m c second set = (e : ℕ) → Decides (has set e) (Reaches m s
 -- The set has exactly the codes that fit with a member of the first and a member of the second.
 abbrev pub Compositions : {V : Type 0} → Meaning V → ℕ → ℕ → ℕ → Type 0
 Compositions m first second set = (e : ℕ) → Decides (has set e) ((c : ℕ) × (has first c ≡ true) × Reaches m second c e)
+
+-- The set is the union of the sets that are given at the members: what it has is in a set that is given at a member, and it has all
+-- of a set that is given at each member.
+abbrev pub Union : ℕ → (ℕ → ℕ → Type 0) → ℕ → Type 0
+Union members Gives set =
+    ((e : ℕ) → has set e ≡ true → (c : ℕ) × (has members c ≡ true) × (given : ℕ) × Gives c given × (has given e ≡ true))
+    × ((c : ℕ) → has members c ≡ true → (given : ℕ) × Gives c given × ((e : ℕ) → has given e ≡ true → has set e ≡ true))

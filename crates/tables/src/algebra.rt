@@ -1,5 +1,5 @@
 // Converse and composition of sets of base relations.
-ghost use Rattle.tables.specs.Relations.{Single, Whole, Converses, Compositions, CompositionsFrom};
+ghost use Rattle.tables.specs.Relations.{Single, Whole, Converses, Compositions, CompositionsFrom, Union};
 
 use kinds::composition::compose;
 use kinds::kind::Kind;
@@ -16,48 +16,36 @@ pub(crate) fn single(code: u8) -> u64
 pub(crate) fn whole<K: Kind>() -> u64
     ensures { Whole K.Kind.meaning result }
 {
-    let mut found = 0;
-    for c in 0..K::count() {
-        found |= single(c);
-    }
-    found
+    (0..K::count()).fold(0, |found, c| found | single(c))
+}
+
+/// The union of the sets that a function gives at the members of a set.
+fn union_over<F: Fn(u8) -> u64>(set: u64, gives: F) -> u64
+    requires { F.IsAlwaysCallable gives }
+    ensures { Union set (λ c given. F.post gives c given) result }
+{
+    (0..64)
+        .filter(|&code| contains(set, code))
+        .fold(0, |found, code| found | gives(code))
 }
 
 /// The set of the converses of the members of a set.
 pub(crate) fn converses<K: Kind>(set: u64) -> u64
     ensures { Converses K.Kind.meaning set result }
 {
-    let mut found = 0;
-    for c in 0..64 {
-        if contains(set, c) {
-            found |= single(K::converse(c));
-        }
-    }
-    found
+    union_over(set, |c| single(K::converse(c)))
 }
 
 /// The composition of a base relation with a set: the union of its compositions with the members.
 fn compositions_from<K: Kind>(c: u8, second: u64) -> u64
     ensures { CompositionsFrom K.Kind.meaning c second result }
 {
-    let mut found = 0;
-    for d in 0..64 {
-        if contains(second, d) {
-            found |= compose::<K>(c, d);
-        }
-    }
-    found
+    union_over(second, |d| compose::<K>(c, d))
 }
 
 /// The composition of two sets: the union of the compositions of the members of the first with those of the second.
 pub(crate) fn compositions<K: Kind>(first: u64, second: u64) -> u64
     ensures { Compositions K.Kind.meaning first second result }
 {
-    let mut found = 0;
-    for c in 0..64 {
-        if contains(first, c) {
-            found |= compositions_from::<K>(c, second);
-        }
-    }
-    found
+    union_over(first, |c| compositions_from::<K>(c, second))
 }

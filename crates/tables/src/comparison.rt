@@ -1,0 +1,263 @@
+// Published tables, held against ours.
+ghost use Rattle.std.specs.Prelude.{◌≡◌, ℕ, ◌==◌, length, IfOk, IsErr, IsOk};
+ghost use Rattle.tables.specs.Relations.{Whole};
+ghost use Rattle.tables.specs.Scores.{score_after};
+
+use crate::algebra::{single, whole};
+use crate::literature::{Letters, Table};
+use crate::published::{
+    DIRECTION_CONVERSES, DIRECTION_LETTERS, DIRECTIONS, Direction, Entries, INTERVAL_CONVERSES,
+    INTERVAL_LETTERS, POINT_COMPOSITIONS, POINT_CONVERSES, POINT_LETTERS, Turned,
+};
+use crate::relations::print_set;
+use crate::score::{Score, total};
+use crate::transitivity::{ALLEN_COMPOSITIONS, ALLEN_IDENTITY, ALLEN_LETTERS};
+use anyhow::{Context, anyhow};
+use dwellings::Dwellings;
+use kinds::composition::compose;
+use kinds::kind::Kind;
+use kinds::notation::Notation;
+use moments::Moments;
+use points::set::contains;
+use spells::Spells;
+
+/// A published table as it is held against ours: the base relations that were met in it, and how many of its entries agree.
+#[derive(Clone, Copy, Default)]
+struct Comparison {
+    met: u64,
+    score: Score,
+}
+
+impl Comparison {
+    /// Counts in an entry of the table, and prints it where it is not ours.
+    fn hold<K: Notation>(
+        &mut self,
+        rt: HostRuntime,
+        relations: (u8, u8),
+        ours: u64,
+        published: Option<u64>,
+    ) -> anyhow::Result<()>
+        ensures unread { published ≡ None → IsErr result }
+        ensures counted { IfOk result (λ _. (set : ℕ) → published ≡ Some set → self.new ≡ record self.old { score = score_after self.old.score (ours == set) }) }
+    {
+        let published = published.context("a published entry cannot be read")?;
+        if ours != published {
+            let (first, second) = relations;
+            let letter = char::from(K::letter());
+            print!(rt; "  differs: {letter} {} {}: ours", K::word(first), K::word(second))?;
+            print_set::<K>(rt, ours)?;
+            print!(rt; ", published")?;
+            print_set::<K>(rt, published)?;
+            println!(rt; "")?;
+        }
+        self.score.count(ours == published);
+        Ok(())
+    }
+
+    /// Counts in the published composition of two relations.
+    fn hold_composition<K: Kind + Notation>(
+        &mut self,
+        rt: HostRuntime,
+        (r, s): (u8, u8),
+        published: Option<u64>,
+    ) -> anyhow::Result<()> {
+        self.hold::<K>(rt, (r, s), compose::<K>(r, s), published)
+    }
+
+    /// Counts in the entries in the row of r of a table of compositions.
+    fn hold_row<K: Kind + Notation>(
+        &mut self,
+        rt: HostRuntime,
+        table: Table,
+        r: u8,
+        entries: &[&str],
+    ) -> anyhow::Result<()>
+        ensures { IsOk result → length entries.now ≡ length table.entry.rows.now }
+    {
+        if entries.len() != table.rows.len() {
+            return Err(anyhow!("a published row has not one entry for each column"));
+        }
+        for (column, entry) in table.rows.iter().zip(entries) {
+            let s = table.letters.read::<K>(column.letter)?;
+            self.hold_composition::<K>(rt, (r, s), table.letters.set::<K>(entry))?;
+        }
+        Ok(())
+    }
+
+    /// The line of the table; how many entries differ. An error where a relation was not met.
+    fn close<K: Kind + Notation>(self, rt: HostRuntime, table: &str) -> anyhow::Result<u32>
+        ensures { IsOk result → Whole K.Kind.meaning self.met }
+    {
+        if self.met != whole::<K>() {
+            return Err(anyhow!("a published table leaves out a relation"));
+        }
+        println!(rt;
+            "published {} {table}: {} of {} agree",
+            char::from(K::letter()),
+            self.score.stand,
+            self.score.tried()
+        )?;
+        Ok(self.score.lacking)
+    }
+}
+
+/// Holds published converses against ours.
+fn hold_converses<K: Kind + Notation>(
+    rt: HostRuntime,
+    letters: Letters,
+    pairs: &[Turned],
+) -> anyhow::Result<u32> {
+    let mut comparison = Comparison::default();
+    for Turned(relation, converse) in pairs {
+        let r = letters.read::<K>(relation)?;
+        comparison.met |= single(r);
+        let ours = single(K::converse(r));
+        comparison.hold::<K>(rt, (r, r), ours, letters.set::<K>(converse))?;
+    }
+    comparison.close::<K>(rt, "converse")
+}
+
+/// Holds a published table of compositions against ours. It has a row for each relation but those of a given set.
+fn hold_compositions<K: Kind + Notation>(
+    rt: HostRuntime,
+    table: Table,
+    left_out: u64,
+) -> anyhow::Result<u32> {
+    let mut comparison = Comparison {
+        met: left_out,
+        score: Score::default(),
+    };
+    for row in table.rows {
+        let r = table.letters.read::<K>(row.letter)?;
+        comparison.met |= single(r);
+        comparison.hold_row::<K>(rt, table, r, row.entries)?;
+    }
+    comparison.close::<K>(rt, "composition")
+}
+
+/// Holds the row and the column of the identity, which Allen's table leaves out, against ours: composed with it, a relation is itself.
+fn hold_identity(rt: HostRuntime, table: Table, identity: u8) -> anyhow::Result<u32> {
+    let mut comparison = Comparison {
+        met: single(identity),
+        score: Score::default(),
+    };
+    let itself = table.letters.set::<Spells>(ALLEN_IDENTITY);
+    comparison.hold_composition::<Spells>(rt, (identity, identity), itself)?;
+    for row in table.rows {
+        let r = table.letters.read::<Spells>(row.letter)?;
+        comparison.met |= single(r);
+        let itself = table.letters.set::<Spells>(row.letter);
+        comparison.hold_composition::<Spells>(rt, (identity, r), itself)?;
+        comparison.hold_composition::<Spells>(rt, (r, identity), itself)?;
+    }
+    comparison.close::<Spells>(rt, "identity")
+}
+
+/// The published composition of two directions: those whose two parts are each in the composition of the parts.
+fn composed_directions(points: Table, first: &Direction, second: &Direction) -> Option<u64> {
+    let east = points.composition::<Moments>(first.eastward, second.eastward)?;
+    let north = points.composition::<Moments>(first.northward, second.northward)?;
+    let mut found = 0;
+    for direction in &DIRECTIONS {
+        let eastward = points.letters.code::<Moments>(direction.eastward)?;
+        let northward = points.letters.code::<Moments>(direction.northward)?;
+        if contains(east, eastward) && contains(north, northward) {
+            found |= Letters(&DIRECTION_LETTERS).set::<Dwellings>(direction.letter)?;
+        }
+    }
+    Some(found)
+}
+
+/// Holds the published compositions of the cardinal directions against ours.
+fn hold_directions(rt: HostRuntime, letters: Letters, points: Table) -> anyhow::Result<u32> {
+    let mut comparison = Comparison::default();
+    for first in &DIRECTIONS {
+        let r = letters.read::<Dwellings>(first.letter)?;
+        comparison.met |= single(r);
+        for second in &DIRECTIONS {
+            let s = letters.read::<Dwellings>(second.letter)?;
+            let published = composed_directions(points, first, second);
+            comparison.hold_composition::<Dwellings>(rt, (r, s), published)?;
+        }
+    }
+    comparison.close::<Dwellings>(rt, "composition")
+}
+
+/// Holds our tables against all published ones; how many entries differ.
+pub(crate) fn hold_all(rt: HostRuntime) -> anyhow::Result<u32> {
+    let points = Table {
+        letters: Letters(&POINT_LETTERS),
+        rows: &POINT_COMPOSITIONS,
+    };
+    let intervals = Table {
+        letters: Letters(&ALLEN_LETTERS),
+        rows: &ALLEN_COMPOSITIONS,
+    };
+    let directions = Letters(&DIRECTION_LETTERS);
+    let identity = intervals.letters.read::<Spells>(ALLEN_IDENTITY)?;
+    Ok(total(&[
+        hold_converses::<Moments>(rt, points.letters, &POINT_CONVERSES)?,
+        hold_compositions::<Moments>(rt, points, 0)?,
+        hold_converses::<Spells>(rt, Letters(&INTERVAL_LETTERS), &INTERVAL_CONVERSES)?,
+        hold_compositions::<Spells>(rt, intervals, single(identity))?,
+        hold_identity(rt, intervals, identity)?,
+        hold_converses::<Dwellings>(rt, directions, &DIRECTION_CONVERSES)?,
+        hold_directions(rt, directions, points)?,
+    ]))
+}
+
+#[cfg(test)]
+mod tests {
+    use super::*;
+    use std::test::Fail;
+
+    // The table of the point algebra with one wrong entry: > for < composed with <.
+    static ONE_TURNED: [Entries; 3] = [
+        Entries {
+            letter: "<",
+            entries: &[">", "B", "<"],
+        },
+        Entries {
+            letter: ">",
+            entries: &["B", ">", ">"],
+        },
+        Entries {
+            letter: "=",
+            entries: &["<", ">", "="],
+        },
+    ];
+
+    // The table of the point algebra without the last entry of its first row.
+    static ONE_LOST: [Entries; 3] = [
+        Entries {
+            letter: "<",
+            entries: &["<", "B"],
+        },
+        Entries {
+            letter: ">",
+            entries: &["B", ">", ">"],
+        },
+        Entries {
+            letter: "=",
+            entries: &["<", ">", "="],
+        },
+    ];
+
+    fn differing(rt: HostRuntime, rows: &[Entries]) -> Option<u32> {
+        let letters = Letters(&POINT_LETTERS);
+        hold_compositions::<Moments>(rt, Table { letters, rows }, 0).ok()
+    }
+
+    #[test]
+    fn counts_differences(rt: HostRuntime) -> Result<(), Fail> {
+        assert_eq!(rt; differing(rt, &POINT_COMPOSITIONS), Some(0));
+        assert_eq!(rt; differing(rt, &ONE_TURNED), Some(1));
+        assert_eq!(rt; differing(rt, &ONE_LOST), None, "a row lost an entry");
+        assert_eq!(rt;
+            differing(rt, &POINT_COMPOSITIONS[1..]),
+            None,
+            "a row is lost"
+        );
+        Ok(())
+    }
+}
