@@ -39,6 +39,7 @@ impl<K: Kind, T: Tally> Draft<K, T> {
     pub fn close(self) -> Closed<K, T>
         ensures parts { HasParts result.sheet self.items self.rows.items K.Kind.meaning.codes }
         ensures opens { position_of result.sheet ≡ opening self.items }
+        ensures sound { SoundSheet K.Kind.meaning (rules K.Kind.meaning K.Kind.fit T.Joins.joining T.Tally.order) result.sheet }
     {
         let Draft {
             items,

@@ -20,9 +20,13 @@ invariant_of-result g c =
 
 pub returns : goal.returns
 returns g c =
+    let kind = g.met.K.Kind in
     let n = c.args.self.items in
     let parts = subst (λ r. IfOk r (λ s. (s.items ≡ n) × (s.rows ≡ c.args.self.rows) × (s.codes ≡ c.count.result))) c.unwrap.ensures c.closing.ensures.parts in
+    let opens = subst (λ r. IfOk r (λ s. position_of s ≡ opening n)) c.unwrap.ensures c.closing.ensures.opens in
     record {
       parts = record { same_items = parts.0; same_rows = ap vec_items parts.1; same_codes = parts.2 ∙ c.count.ensures };
-      opens = subst (λ r. IfOk r (λ s. position_of s ≡ opening n)) c.unwrap.ensures c.closing.ensures.opens;
+      opens = opens;
+      sound = opening_sheet g.K.Kind.meaning kind.lawful g.K.Kind.fit kind.composes g.T.Joins.joining g.met.T.Joins.monoid
+          g.T.Tally.order g.met.T.Tally.ranks g.K.Kind.values kind.realises c.unwrap.result n parts.0 (parts.2 ∙ c.count.ensures) opens;
     }
