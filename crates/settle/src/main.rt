@@ -95,6 +95,7 @@ fn settle_one(
 /// Settles the sheets of a file, and answers the fault that ends the run, if any.
 fn settle_all(rt: HostRuntime, file: &[u8]) -> anyhow::Result<Option<SheetFault>> {
     let mut reader = Reader::new(file);
+    // A loop is proved to end; no file has as many heads as this one has turns.
     for number in 1..u64::MAX {
         let head = match reader.next_head() {
             Ok(Some(head)) => head,
