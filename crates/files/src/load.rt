@@ -33,7 +33,8 @@ fn field_of(fault: Fault, entry: &Entry, items: u8) -> u8
     }
 }
 
-// Enters an entry, or tells the field at which the draft refuses it.
+// Enters an entry, or tells the field at which the draft refuses it. No trait has both K and T, so the clauses name how the two are
+// written part by part, by `spelled`.
 fn enter_at<K: Kind + Notation, T: Tally + TallyLetter>(
     draft: &mut Draft<K, T>,
     entry: Entry,

@@ -15,6 +15,7 @@ fn digits(text: &[u8]) -> Result<u32, FieldFault>
     ensures { result ≡ given (list_all is_ascii_digit text.now) (value_of text.now) Unfit }
 {
     let mut n = 0;
+    // No fold: that n stays small is known only from one digit to the next.
     for b in text {
         if !b.is_ascii_digit() {
             return Err(FieldFault::NotNumber);

@@ -99,6 +99,7 @@ fn settle_one(rt: HostRuntime, reader: &mut Reader, head: Head, number: u64) -> 
 /// Settles the sheets of a file.
 fn settle_all(rt: HostRuntime, file: &[u8]) -> Result<(), Stop> {
     let mut reader = Reader::new(file);
+    // A loop is proved to end; no file has as many heads as this one has turns.
     for number in 1..u64::MAX {
         let Some(head) = reader.next_head()? else {
             break;
