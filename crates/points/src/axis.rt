@@ -24,6 +24,7 @@ pub struct Order {
 #[derive(Clone, Copy)]
 pub struct Axis<const MARKS: usize> {
     pub orders: [[Order; MARKS]; MARKS],
+    // So that a rank fits: 255 items have at most 255 marks each.
     ghost few: { MARKS ≤ 255 },
 }
 
