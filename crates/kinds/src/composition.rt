@@ -9,6 +9,7 @@ pub fn compose<K: Kind>(c: u8, d: u8) -> u64
     ensures { Composition K.Kind.meaning c d result }
 {
     let mut set: u64 = 0;
+    // A loop, since a proof cannot see what a closure answers that calls a kind.
     for e in 0..64 {
         if K::fits(c, d, e) {
             set |= 1 << e;

@@ -8,6 +8,9 @@ use crate::scenario::entry;
 use crate::set::contains;
 use std::cmp::Ordering;
 
+// A mark of an item on an axis: the item, and which of its marks.
+type Mark = (u8, usize);
+
 /// How a mark of one item stands to a mark of a later item: before it under the codes of one set, after it under the other codes of
 /// the other set, and where it is under the rest.
 #[derive(Clone, Copy)]
@@ -21,21 +24,22 @@ pub struct Order {
 #[derive(Clone, Copy)]
 pub struct Axis<const MARKS: usize> {
     pub orders: [[Order; MARKS]; MARKS],
+    // So that a rank fits: 255 items have at most 255 marks each.
     ghost few: { MARKS ≤ 255 },
 }
 
 impl<const MARKS: usize> Axis<MARKS> {
-    // How mark s of an item stands to mark t of a later one; under no code apart where there are no such marks.
+    // How mark s of an item stands to mark t of a later one, or the order of two empty sets where there are no such marks.
     fn order(&self, s: usize, t: usize) -> Order
         ensures { result ≡ order_of self.now.orders s t }
     {
-        let apart = Order {
+        let none = Order {
             before: 0,
             after: 0,
         };
         match self.orders.get(s) {
-            Some(row) => row.get(t).copied().unwrap_or(apart),
-            None => apart,
+            Some(row) => row.get(t).copied().unwrap_or(none),
+            None => none,
         }
     }
 
@@ -53,10 +57,11 @@ impl<const MARKS: usize> Axis<MARKS> {
         }
     }
 
-    // How mark s of item k stands to mark t of item i in the scenario.
-    fn stands(&self, scenario: &[u8], k: u8, s: usize, i: u8, t: usize) -> Ordering
-        ensures { result ≡ told (stands (in_scenario (drawn self.now.orders) scenario.now) (k, s) (i, t)) }
+    // How mark x stands to mark y in the scenario.
+    fn stands(&self, scenario: &[u8], x: Mark, y: Mark) -> Ordering
+        ensures { result ≡ told (stands (in_scenario (drawn self.now.orders) scenario.now) x y) }
     {
+        let ((k, s), (i, t)) = (x, y);
         match k.cmp(&i) {
             Ordering::Less => self.compare(entry(scenario, k, i), s, t),
             Ordering::Equal => s.cmp(&t),
@@ -64,14 +69,15 @@ impl<const MARKS: usize> Axis<MARKS> {
         }
     }
 
-    // How many marks of item k stand before mark t of item i in the scenario.
-    fn preceding(&self, scenario: &[u8], k: u8, i: u8, t: usize) -> u32
-        ensures is { result ≡ count_by (λ y. is_lt (stands (in_scenario (drawn self.now.orders) scenario.now) y (i, t))) (of_item k MARKS []) }
+    // How many marks of item k stand before mark y in the scenario. In code over a const parameter a proof cannot see what a closure
+    // answers, so it is counted in a loop.
+    fn preceding(&self, scenario: &[u8], k: u8, y: Mark) -> u32
+        ensures is { result ≡ count_by (λ x. is_lt (stands (in_scenario (drawn self.now.orders) scenario.now) x y)) (of_item k MARKS []) }
         ensures few { result ≤ 255 }
     {
         let mut sum = 0;
         for s in 0..MARKS {
-            if self.stands(scenario, k, s, i, t).is_lt() {
+            if self.stands(scenario, (k, s), y).is_lt() {
                 sum += 1;
             }
         }
@@ -86,7 +92,7 @@ impl<const MARKS: usize> Axis<MARKS> {
     {
         let mut sum = 0;
         for k in 0..items {
-            sum += self.preceding(scenario, k, i, usize::from(t));
+            sum += self.preceding(scenario, k, (i, usize::from(t)));
         }
         sum
     }

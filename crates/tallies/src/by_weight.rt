@@ -42,7 +42,6 @@ impl Tally for ByWeight {
     }
 }
 
-// The join of claims is one function, `joined`; this one says of it what only this tally's costs can say.
 /// The cost of the claims by weight: for up to 256 claims, the plain sum of their weights.
 pub fn total(claims: &[Claim]) -> u32
     ensures joins { result ≡ joined by_weight claims.now }
@@ -50,5 +49,6 @@ pub fn total(claims: &[Claim]) -> u32
     ensures adds_exactly { WeightsAdd }
     ensures counts { WeightsCount }
 {
+    // One such function for each tally: the clauses speak of its own costs.
     joined::<ByWeight>(claims)
 }

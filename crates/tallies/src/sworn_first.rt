@@ -11,8 +11,9 @@ use crate::cost::joined;
 use crate::tally::{Joins, Tally};
 use std::fmt;
 
-/// How many sworn statements are broken, and the weight of the other broken statements.
-#[derive(Clone, Copy, PartialEq, Eq)]
+/// How many sworn statements are broken, and the weight of the other broken statements. Costs are
+/// ordered by the first, then by the second.
+#[derive(Clone, Copy, PartialEq, Eq, PartialOrd, Ord)]
 pub struct SwornCost {
     /// How many sworn statements are broken.
     pub sworn: u32,
@@ -61,13 +62,11 @@ impl Tally for SwornFirst {
 
     ghost ranks = { ranking_sworn };
 
-    // Written out: by the derived order a search of spells took a third longer.
     fn at_most(a: SwornCost, b: SwornCost) -> bool {
-        a.sworn < b.sworn || (a.sworn == b.sworn && a.weight <= b.weight)
+        a <= b
     }
 }
 
-// The join of claims is one function, `joined`; this one says of it what only this tally's costs can say.
 /// The cost of the claims, sworn first: for up to 256 claims, how many are sworn and the plain sum
 /// of the weights of the others.
 pub fn total(claims: &[Claim]) -> SwornCost
@@ -75,6 +74,7 @@ pub fn total(claims: &[Claim]) -> SwornCost
     ensures sums { length claims.now ≤ most_penalties → result ≡ plain_sum claims.now }
     ensures adds_exactly { PartsAdd }
 {
+    // One such function for each tally: the clauses speak of its own costs.
     joined::<SwornFirst>(claims)
 }
 

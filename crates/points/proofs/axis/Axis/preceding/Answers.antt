@@ -10,10 +10,10 @@ use Rattle.points.proofs.axis.Axis.preceding.Goals.{then-is_lt, else-is_lt}
 
 pub loop-s-preserved : goal.loop-s-preserved
 loop-s-preserved g c =
-    let f : ℕ × ℕ → Bool = λ y. is_lt (stands (in_scenario (drawn c.args.self.now.orders) c.args.scenario.now) y (c.args.i, c.args.t)) in
+    let f : ℕ × ℕ → Bool = λ x. is_lt (stands (in_scenario (drawn c.args.self.now.orders) c.args.scenario.now) x c.args.y) in
     let step =
     count_mark f c.args.k c.loop-s.s c.is_lt.result
-    (c.is_lt.ensures ∙ ap told_is_lt c.stands.ensures ∙ told_lt (stands (in_scenario (drawn c.args.self.now.orders) c.args.scenario.now) (c.args.k, c.loop-s.s) (c.args.i, c.args.t))) in
+    (c.is_lt.ensures ∙ ap told_is_lt c.stands.ensures ∙ told_lt (stands (in_scenario (drawn c.args.self.now.orders) c.args.scenario.now) (c.args.k, c.loop-s.s) c.args.y)) in
     elim c.if-is_lt.branch [
       | then-is_lt w ↦ (let one_more = ap one w.if-is_lt.true in omega arith)
       | else-is_lt w ↦ (let none_more = ap one w.if-is_lt.false in omega arith)

@@ -5,4 +5,4 @@ use Rattle.points.proofs.axis.Axis.preceding.Given as goal
 
 abbrev pub invariant-loop-s : goal.invariant-loop-s
 invariant-loop-s g l =
-    (l.sum ≤ l.s) × (l.sum ≡ count_by (λ y. is_lt (stands (in_scenario (drawn l.self.orders) l.scenario) y (l.i, l.t))) (of_item l.k l.s []))
+    (l.sum ≤ l.s) × (l.sum ≡ count_by (λ x. is_lt (stands (in_scenario (drawn l.self.orders) l.scenario) x l.y)) (of_item l.k l.s []))
