@@ -1,5 +1,5 @@
 -- What the calls that settle a sheet answer.
-use Rattle.std.proofs.Common.{◌≡◌, ℕ, zero, suc, ◌+◌, ◌<◌, ◌≤◌, List, [], ◌∷◌, ◌++◌, length, map, Ok, Err, Result, IfOk, Some, None, Option, vec_items, refl, ap, sym, ◌∙◌, subst, slice_index_or, true, arith}
+use Rattle.std.proofs.Common.{◌≡◌, ℕ, zero, suc, ◌+◌, ◌<◌, ◌≤◌, List, [], ◌∷◌, length, map, Ok, Err, Result, IfOk, Some, None, Option, vec_items, refl, ap, sym, ◌∙◌, subst, slice_index_or, true, arith}
 use Rattle.std.specs.List.{range_with_len}
 use Rattle.std.proofs.lemmas.Bool.{le-leb}
 use Rattle.std.proofs.lemmas.List.{ext_get_or}
@@ -26,14 +26,13 @@ use Rattle.runs.specs.declared.answer.Answer.TheVariants.{Unmade, Refused, Done,
 use Rattle.runs.specs.Models.{drafting, closed, verdict, next}
 use Rattle.runs.specs.Answers.{Shows, Showing, AnswersScript}
 use Rattle.runs.specs.Law.{At, OnClosed, SightLaw, Law, wanted}
-use Rattle.runs.specs.Told.{sight_in, charge_in}
+use Rattle.runs.specs.Told.{sight_in}
 use Rattle.reports.specs.Found.{or_else, first_sight, charges_in}
 use Rattle.reports.specs.Account.{Account, searched, account_at, account_of, AccountLaw, settling, Tells}
 
 pub IfOk-both : {T E : Type 0} (r : Result T E) (P Q : T → Type 0) → IfOk r P → IfOk r Q → IfOk r (λ v. P v × Q v)
 IfOk-both (Ok v) P Q p q = (p, q)
 IfOk-both (Err e) P Q p q = tt
-
 
 -- The checks of these calls pass.
 person_passes : (p : ℕ) → 1 ≤ p → p ≤ 20 → first_fault (charge_checks p) ≡ None

@@ -112,8 +112,16 @@ fn report_text<K: PrintedKind, T: PrintedTally>(
         sight.floor,
         sight.finished,
     )?;
-    push_lines(&mut text, values, |i, value| item_text::<K, T>(heap, i, value))?;
-    push_lines(&mut text, report.charges, |i, charge| person_text::<K, T>(heap, i, charge))?;
+    push_lines(
+        &mut text,
+        values,
+        |i, value| item_text::<K, T>(heap, i, value),
+    )?;
+    push_lines(
+        &mut text,
+        report.charges,
+        |i, charge| person_text::<K, T>(heap, i, charge),
+    )?;
     Ok(text)
 }
 

@@ -7,4 +7,4 @@ abbrev pub invariant-loop-i : goal.invariant-loop-i
 invariant-loop-i g l =
     goal.F-IsAlwaysCallable g l.line
     × ((of : ℕ → _ → List ℕ) → ((i : ℕ) (x : _) (r : _) → goal.F-post g l.line i x r → IfOk r (λ s. string_bytes s ≡ of i x))
-        → l.text.items ≡ l.fn.text.items ++ lines_from of 1 (take l.i l.members))
+    → l.text.items ≡ l.fn.text.items ++ lines_from of 1 (take l.i l.members))

@@ -21,11 +21,11 @@ returns g c =
       | in-Charge+in-Err-charge w ↦ λ steps asked. rw (w.in-Charge.is, w.closed-is, w.answer-is)
           (refused_charge kind.meaning kind.fit kind.values j order c.args.closed w.in-Charge.person w.in-Err-charge.fault w.in-Err-charge.ensures.0 steps asked)
       | in-Size w ↦ λ steps asked. rw (w.closed-is, w.answer-is) (elim w.in-Size.is [
-          | inl p ↦ rw p.1 (record { answers = refl; views = (steps, asked, refl) })
-          | inr (inl p) ↦ rw p.1 (record { answers = refl; views = (steps, asked, refl) })
-          | inr (inr (inl p)) ↦ rw p.1 (record { answers = refl; views = (steps, asked, refl) })
-          | inr (inr (inr (inl p))) ↦ rw p.2 (record { answers = refl; views = (steps, asked, refl) })
-          | inr (inr (inr (inr (inl p)))) ↦ rw p.1 (record { answers = refl; views = (steps, asked, refl) })
-          | inr (inr (inr (inr (inr p)))) ↦ rw p (record { answers = refl; views = (steps, asked, refl) })
-        ])
+        | inl p ↦ rw p.1 (record { answers = refl; views = (steps, asked, refl) })
+        | inr (inl p) ↦ rw p.1 (record { answers = refl; views = (steps, asked, refl) })
+        | inr (inr (inl p)) ↦ rw p.1 (record { answers = refl; views = (steps, asked, refl) })
+        | inr (inr (inr (inl p))) ↦ rw p.2 (record { answers = refl; views = (steps, asked, refl) })
+        | inr (inr (inr (inr (inl p)))) ↦ rw p.1 (record { answers = refl; views = (steps, asked, refl) })
+        | inr (inr (inr (inr (inr p)))) ↦ rw p (record { answers = refl; views = (steps, asked, refl) })
+      ])
     ]

@@ -1,7 +1,6 @@
 -- A draft is closed with its own parts, and the search of the closed sheet is sound.
 use Rattle.std.proofs.Common.{◌≡◌, IfOk, vec_items, ap, ◌∙◌, subst}
 use Rattle.std.proofs.lemmas.Grind.{merely}
-use Rattle.search.specs.declared.sheet.Sheet.{Sheet}
 use Rattle.search.specs.Closed.{position_of}
 use Rattle.rules.specs.Steps.{opening}
 use Rattle.sheets.proofs.Searches.{opening_sheet}
