@@ -1,5 +1,5 @@
 -- Sets of one base relation, and unions of sets of base relations, as bits.
-use Rattle.std.proofs.Common.{◌≡◌, ℕ, ◌+◌, ◌^◌, ◌<◌, ◌≤◌, Bool, true, false, Decides, Option, cond, List, [], ◌∷◌, ◌++◌, sym, refl, ◌∙◌, subst, inl, inr, arith, zero-add}
+use Rattle.std.proofs.Common.{◌≡◌, ℕ, ◌^◌, ◌<◌, ◌≤◌, Bool, true, Decides, Option, cond, List, [], ◌∷◌, ◌++◌, sym, refl, ◌∙◌, subst, inl, inr, arith, zero-add}
 use Rattle.std.specs.List.{All, Contains, FoldsTo, filter, range_with_len}
 use Rattle.std.specs.Iterator.{Drains}
 use Rattle.std.specs.Fn.{Called}
@@ -124,4 +124,4 @@ over_codes codes set few over e = (
   where
     all : All (λ k. k < codes) (range_with_len 0 codes)
     all = All-from_get_or (λ k. k < codes) (range_with_len 0 codes) 0 (λ i l. let below : i < codes = subst (λ (n : ℕ). i < n) (length-range_with_len 0 codes) l in
-      subst (λ (k : ℕ). k < codes) (sym (get_or-range_with_len 0 codes i 0 below ∙ zero-add i)) below)
+        subst (λ (k : ℕ). k < codes) (sym (get_or-range_with_len 0 codes i 0 below ∙ zero-add i)) below)

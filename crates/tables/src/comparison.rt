@@ -44,7 +44,11 @@ impl Comparison {
         if ours != published {
             let (first, second) = relations;
             let letter = char::from(K::letter());
-            print!(rt; "  differs: {letter} {} {}: ours", K::word(first), K::word(second))?;
+            print!(rt;
+                "  differs: {letter} {} {}: ours",
+                K::word(first),
+                K::word(second)
+            )?;
             print_set::<K>(rt, ours)?;
             print!(rt; ", published")?;
             print_set::<K>(rt, published)?;
@@ -154,7 +158,12 @@ fn hold_identity(rt: HostRuntime, table: Table, identity: u8) -> anyhow::Result<
 }
 
 /// The published composition of two directions: those whose two parts are each in the composition of the parts.
-fn composed_directions(points: Table, first: &Direction, second: &Direction) -> Option<u64> {
+fn composed_directions(
+    letters: Letters,
+    points: Table,
+    first: &Direction,
+    second: &Direction,
+) -> Option<u64> {
     let east = points.composition::<Moments>(first.eastward, second.eastward)?;
     let north = points.composition::<Moments>(first.northward, second.northward)?;
     let mut found = 0;
@@ -162,7 +171,7 @@ fn composed_directions(points: Table, first: &Direction, second: &Direction) -> 
         let eastward = points.letters.code::<Moments>(direction.eastward)?;
         let northward = points.letters.code::<Moments>(direction.northward)?;
         if contains(east, eastward) && contains(north, northward) {
-            found |= Letters(&DIRECTION_LETTERS).set::<Dwellings>(direction.letter)?;
+            found |= letters.set::<Dwellings>(direction.letter)?;
         }
     }
     Some(found)
@@ -176,7 +185,7 @@ fn hold_directions(rt: HostRuntime, letters: Letters, points: Table) -> anyhow::
         comparison.met |= single(r);
         for second in &DIRECTIONS {
             let s = letters.read::<Dwellings>(second.letter)?;
-            let published = composed_directions(points, first, second);
+            let published = composed_directions(letters, points, first, second);
             comparison.hold_composition::<Dwellings>(rt, (r, s), published)?;
         }
     }

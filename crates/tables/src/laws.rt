@@ -36,9 +36,8 @@ impl AlgebraLaw {
     /// How many second and third relations there are to an instance, of b relations.
     fn extent(self, b: u8) -> (u8, u8) {
         match self {
-            AlgebraLaw::LeftIdentity
-            | AlgebraLaw::RightIdentity
-            | AlgebraLaw::ConverseOfConverse => (1, 1),
+            AlgebraLaw::LeftIdentity | AlgebraLaw::RightIdentity | AlgebraLaw::ConverseOfConverse =>
+                (1, 1),
             AlgebraLaw::ConverseOfComposition => (b, 1),
             AlgebraLaw::Associativity | AlgebraLaw::Cycle => (b, b),
         }
@@ -74,7 +73,12 @@ fn try_instance<K: Kind + Notation>(
 ) -> io::Result<()> {
     let holds = law.holds::<K>(r, s, t);
     if !holds {
-        println!(rt; "  fails: {name} at {} {} {}", K::word(r), K::word(s), K::word(t))?;
+        println!(rt;
+            "  fails: {name} at {} {} {}",
+            K::word(r),
+            K::word(s),
+            K::word(t)
+        )?;
     }
     score.count(holds);
     Ok(())

@@ -1,4 +1,7 @@
 // The letters and the tables of the literature, read as base relations.
+ghost use Rattle.std.specs.Prelude.{◌≡◌, IsErr, MatchOption, option_copied};
+ghost use Rattle.tables.specs.Letters.{meant, meant_code};
+
 use crate::algebra::single;
 use crate::published::{Entries, Letter};
 use anyhow::Context;
@@ -10,7 +13,9 @@ pub(crate) struct Letters<'a>(pub(crate) &'a [Letter]);
 
 impl Letters<'_> {
     /// The words that a letter stands for, or none where it is not among the letters.
-    fn meant(self, text: &str) -> Option<&'static str> {
+    fn meant(self, text: &str) -> Option<&'static str>
+        ensures { option_copied result ≡ meant self.entry.0.now text.now }
+    {
         self.0
             .iter()
             .find(|Letter(letter, _)| *letter == text)
@@ -18,12 +23,16 @@ impl Letters<'_> {
     }
 
     /// The code of the base relation that a letter stands for, or none where it stands for no single one.
-    pub(crate) fn code<K: Notation>(self, text: &str) -> Option<u8> {
+    pub(crate) fn code<K: Notation>(self, text: &str) -> Option<u8>
+        ensures { result ≡ meant_code K.words self.entry.0.now text.now }
+    {
         K::code(self.meant(text)?.as_bytes())
     }
 
     /// The code of the base relation that a letter stands for; an error where it stands for no single one.
-    pub(crate) fn read<K: Notation>(self, text: &str) -> anyhow::Result<u8> {
+    pub(crate) fn read<K: Notation>(self, text: &str) -> anyhow::Result<u8>
+        ensures { MatchOption (meant_code K.words self.entry.0.now text.now) (IsErr result) (λ code. result ≡ Ok code) }
+    {
         self.code::<K>(text)
             .context("a published letter cannot be read")
     }
