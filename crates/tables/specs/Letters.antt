@@ -1,7 +1,9 @@
 -- The letters of the literature, and what they stand for.
-use Rattle.std.specs.Prelude.{ℕ, List, Option, find, option_and_then, option_map}
+use Rattle.std.specs.Prelude.{◌≡◌, ℕ, ◌==◌, List, Option, Some, MatchOption, find, option_and_then, option_map}
+use Rattle.std.specs.List.{slice_split}
 use Rattle.std.specs.Str.{bytes_eq}
 use Rattle.kinds.specs.Words.{read}
+use Rattle.tables.specs.Relations.{Single, UnionOf}
 use Rattle.tables.specs.declared.published.Letter.{Letter}
 
 -- the words that a letter stands for, or none where it is not among the letters
@@ -11,3 +13,18 @@ meant letters text = option_map (λ l. l.1.now) (find (λ l. bytes_eq l.0.now te
 -- the code of the base relation that a letter stands for, or none where it stands for no single one
 abbrev pub meant_code : List (List ℕ) → List Letter → List ℕ → Option ℕ
 meant_code words letters text = option_and_then (read words) (meant letters text)
+
+-- the parts of a text between its spaces
+abbrev pub parts : List ℕ → List (List ℕ)
+parts text = slice_split (λ b. b == 32) text
+
+-- The set has the base relations that the parts of a text name; each part is a word.
+abbrev pub Named : List (List ℕ) → List ℕ → ℕ → Type 0
+Named words text set = UnionOf (λ part one. (c : ℕ) × (read words part ≡ Some c) × Single c one) (parts text) set
+
+-- The set has what an entry stands for: a letter, or else its parts, each of which is one.
+abbrev pub Entered : List (List ℕ) → List Letter → List ℕ → ℕ → Type 0
+Entered words letters entry set =
+    MatchOption (meant letters entry)
+    (UnionOf (λ part given. (text : List ℕ) × (meant letters part ≡ Some text) × Named words text given) (parts entry) set)
+    (λ text. Named words text set)

@@ -1,6 +1,6 @@
 // The letters and the tables of the literature, read as base relations.
-ghost use Rattle.std.specs.Prelude.{◌≡◌, IsErr, MatchOption, option_copied};
-ghost use Rattle.tables.specs.Letters.{meant, meant_code};
+ghost use Rattle.std.specs.Prelude.{◌≡◌, IfSome, IsErr, MatchOption, option_copied};
+ghost use Rattle.tables.specs.Letters.{Entered, Named, meant, meant_code};
 
 use crate::algebra::single;
 use crate::published::{Entries, Letter};
@@ -38,7 +38,9 @@ impl Letters<'_> {
     }
 
     /// The set that a published entry gives: a letter, or several that are parted by spaces. None where one is unknown.
-    pub(crate) fn set<K: Notation>(self, entry: &str) -> Option<u64> {
+    pub(crate) fn set<K: Notation>(self, entry: &str) -> Option<u64>
+        ensures { IfSome result (λ set. Entered K.words self.entry.0.now entry.now set) }
+    {
         if let Some(words) = self.meant(entry) {
             return named::<K>(words);
         }
@@ -51,7 +53,9 @@ impl Letters<'_> {
 }
 
 /// The set of the base relations that the words name, or none where one is no word of the kind.
-fn named<K: Notation>(words: &str) -> Option<u64> {
+fn named<K: Notation>(words: &str) -> Option<u64>
+    ensures { IfSome result (λ set. Named K.words words.now set) }
+{
     let mut set = 0;
     for word in words.split(' ') {
         set |= single(K::code(word.as_bytes())?);
