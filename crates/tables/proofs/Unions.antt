@@ -1,6 +1,7 @@
 -- Sets of one base relation, and unions of sets of base relations, as bits.
-use Rattle.std.proofs.Common.{◌≡◌, ℕ, ◌^◌, ◌<◌, ◌≤◌, Bool, true, Decides, Option, cond, List, [], ◌∷◌, ◌++◌, sym, refl, ◌∙◌, subst, inl, inr, arith, zero-add}
+use Rattle.std.proofs.Common.{◌≡◌, ℕ, ◌^◌, ◌<◌, ◌≤◌, Bool, true, Decides, Option, cond, Bor, List, [], map, ◌∷◌, ◌++◌, sym, refl, ◌∙◌, subst, inl, inr, arith, zero-add}
 use Rattle.std.specs.List.{All, Contains, FoldsTo, filter, range_with_len}
+use Rattle.std.proofs.lemmas.List.{map-append}
 use Rattle.std.specs.Iterator.{Drains}
 use Rattle.std.specs.Fn.{Called}
 use denote.Param.Members.{Mut}
@@ -49,6 +50,13 @@ over_more {A} Gives items set n more old new = (forth, back)
       | inl before ↦ (let (given, gives, within) = old.1 c before in (given, gives, wider given within))
       | inr same ↦ here c same
     ]
+
+-- the same, where the items are what references point to
+pub over_push : {A : Type 0} (Gives : A → ℕ → Type 0) (items : List (Bor A)) (set : ℕ) (x : Bor A) (more : ℕ) → UnionOf Gives (map (λ y. y.now) items) set →
+    Gives x.now more → UnionOf Gives (map (λ y. y.now) (items ++ x ∷ [])) (bit_or set more)
+over_push Gives items set x more old new =
+    subst (λ xs. UnionOf Gives xs (bit_or set more)) (sym (map-append (λ y. y.now) items (x ∷ [])))
+    (over_more Gives (map (λ y. y.now) items) set x.now more old new)
 
 -- a fold whose closure unites what it has with a set that is given at the item
 pub over_fold : {S F : Type 0} {steps : S → Option ℕ → S → Type 0} {g : Mut F (ℕ × (ℕ × Unit {0})) ℕ} {f : F} {s : S} {r : ℕ} →

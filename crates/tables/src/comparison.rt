@@ -4,7 +4,7 @@ ghost use Rattle.tables.specs.Relations.{Whole};
 ghost use Rattle.tables.specs.Scores.{score_after};
 
 use crate::algebra::{single, whole};
-use crate::literature::{Letters, Table};
+use crate::letters::Letters;
 use crate::published::{
     DIRECTION_CONVERSES, DIRECTION_LETTERS, DIRECTIONS, Direction, Entries, INTERVAL_CONVERSES,
     INTERVAL_LETTERS, POINT_COMPOSITIONS, POINT_CONVERSES, POINT_LETTERS, Turned,
@@ -20,6 +20,22 @@ use kinds::notation::Notation;
 use moments::Moments;
 use points::set::contains;
 use spells::Spells;
+
+/// A published table of compositions. Its columns are in the order of its rows.
+#[derive(Clone, Copy)]
+struct Table<'a> {
+    letters: Letters<'a>,
+    rows: &'a [Entries],
+}
+
+impl Table<'_> {
+    /// The published composition of two relations, or none where it cannot be read.
+    fn composition<K: Notation>(self, first: &str, second: &str) -> Option<u64> {
+        let row = self.rows.iter().find(|row| row.letter == first)?;
+        let column = self.rows.iter().position(|row| row.letter == second)?;
+        self.letters.set::<K>(row.entries.get(column)?)
+    }
+}
 
 /// A published table as it is held against ours: the base relations that were met in it, and how many of its entries agree.
 #[derive(Clone, Copy, Default)]

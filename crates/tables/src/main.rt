@@ -4,7 +4,7 @@
 mod algebra;
 mod comparison;
 mod laws;
-mod literature;
+mod letters;
 mod published;
 mod relations;
 mod score;

@@ -2,7 +2,7 @@
 use Rattle.std.proofs.Common.{◌≡◌, ℕ, Some, map}
 use Rattle.kinds.specs.Words.{read}
 use Rattle.tables.specs.Relations.{Single, UnionOf}
-use Rattle.tables.proofs.literature.named.Given as goal
+use Rattle.tables.proofs.letters.named.Given as goal
 
 abbrev pub invariant-loop-word : goal.invariant-loop-word
 invariant-loop-word g l =

@@ -2,7 +2,7 @@
 use Rattle.std.proofs.Common.{◌≡◌, ℕ, List, Some, map}
 use Rattle.tables.specs.Letters.{Named, meant}
 use Rattle.tables.specs.Relations.{UnionOf}
-use Rattle.tables.proofs.literature.Letters.set.Given as goal
+use Rattle.tables.proofs.letters.Letters.set.Given as goal
 
 abbrev pub invariant-loop-letter : goal.invariant-loop-letter
 invariant-loop-letter g l =

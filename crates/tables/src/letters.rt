@@ -1,9 +1,9 @@
-// The letters and the tables of the literature, read as base relations.
-ghost use Rattle.std.specs.Prelude.{◌≡◌, IfSome, IsErr, MatchOption, option_copied};
-ghost use Rattle.tables.specs.Letters.{Entered, Named, meant, meant_code};
+// The letters of the literature, read as base relations.
+ghost use Rattle.std.specs.Prelude.{◌≡◌, IsErr, MatchOption, option_copied};
+ghost use Rattle.tables.specs.Letters.{Entered, Named, Unnamed, Unread, meant, meant_code};
 
 use crate::algebra::single;
-use crate::published::{Entries, Letter};
+use crate::published::Letter;
 use anyhow::Context;
 use kinds::notation::Notation;
 
@@ -39,7 +39,7 @@ impl Letters<'_> {
 
     /// The set that a published entry gives: a letter, or several that are parted by spaces. None where one is unknown.
     pub(crate) fn set<K: Notation>(self, entry: &str) -> Option<u64>
-        ensures { IfSome result (λ set. Entered K.words self.entry.0.now entry.now set) }
+        ensures { MatchOption result (Unread K.words self.entry.0.now entry.now) (λ set. Entered K.words self.entry.0.now entry.now set) }
     {
         if let Some(words) = self.meant(entry) {
             return named::<K>(words);
@@ -54,27 +54,11 @@ impl Letters<'_> {
 
 /// The set of the base relations that the words name, or none where one is no word of the kind.
 fn named<K: Notation>(words: &str) -> Option<u64>
-    ensures { IfSome result (λ set. Named K.words words.now set) }
+    ensures { MatchOption result (Unnamed K.words words.now) (λ set. Named K.words words.now set) }
 {
     let mut set = 0;
     for word in words.split(' ') {
         set |= single(K::code(word.as_bytes())?);
     }
     Some(set)
-}
-
-/// A published table of compositions. Its columns are in the order of its rows.
-#[derive(Clone, Copy)]
-pub(crate) struct Table<'a> {
-    pub(crate) letters: Letters<'a>,
-    pub(crate) rows: &'a [Entries],
-}
-
-impl Table<'_> {
-    /// The published composition of two relations, or none where it cannot be read.
-    pub(crate) fn composition<K: Notation>(self, first: &str, second: &str) -> Option<u64> {
-        let row = self.rows.iter().find(|row| row.letter == first)?;
-        let column = self.rows.iter().position(|row| row.letter == second)?;
-        self.letters.set::<K>(row.entries.get(column)?)
-    }
 }
