@@ -1,4 +1,4 @@
-// The laws of a relation algebra, tried over the base relations of a kind.
+// The laws of a relation algebra, tried over the base relations of a kind, which are told by their codes.
 use crate::algebra::{compositions, converses, single};
 use crate::score::Score;
 use kinds::composition::compose;
@@ -18,6 +18,8 @@ enum AlgebraLaw {
 }
 
 impl AlgebraLaw {
+    // The names stand here and in no `Display`, since the two laws of the identity are counted under one.
+
     /// The laws by the names under which they are counted.
     const NAMED: [(&'static str, &'static [AlgebraLaw]); 5] = [
         (

@@ -1,4 +1,4 @@
-// The letters of the literature, read as base relations.
+// The letters of the literature, read as base relations. The loops over the parts of a text end at one that cannot be read.
 ghost use Rattle.std.specs.Prelude.{◌≡◌, IsErr, MatchOption, option_copied};
 ghost use Rattle.tables.specs.Letters.{Entered, Named, Unnamed, Unread, meant, meant_code};
 
