@@ -67,28 +67,23 @@ composed m l f words first second these test e =
       λ h. (composes m l f c d e).0 (same e (below_has l.codes e es small h) ∙ among_has e es h),
     )
 
+-- one line after another
+infixr 5 ◌▸◌
+◌▸◌ : {A B : Type 0} → A → B → A × B
+a ▸ b = (a, b)
+
 pub figures : Figures
-figures = record {
-  before_before = composed moments line timed moment_words "<" "<" ("<" ∷ []) tt;
-  before_after = composed moments line timed moment_words "<" ">" ("=" ∷ "<" ∷ ">" ∷ []) tt;
-  precedes_precedes = composed spells timeline spelled spell_words "p" "p" ("p" ∷ []) tt;
-  meets_meets = composed spells timeline spelled spell_words "m" "m" ("p" ∷ []) tt;
-  overlaps_overlaps = composed spells timeline spelled spell_words "o" "o" ("p" ∷ "m" ∷ "o" ∷ []) tt;
-  starts_finishes = composed spells timeline spelled spell_words "s" "f" ("d" ∷ []) tt;
-  north_east = composed dwellings compass charted dwelling_words "n" "e" ("ne" ∷ []) tt;
-  north_south = composed dwellings compass charted dwelling_words "n" "s" ("eq" ∷ "n" ∷ "s" ∷ []) tt;
-  meeting_first = refl;
-  meeting_second = refl;
-  household_steps = finished_after moments_by_weight 3 household 18 tt;
-  household_cost = refl;
-  household_floor = refl;
-  household_values = refl;
-  household_first = refl;
-  household_second = refl;
-  lone_steps = finished_after moments_by_weight 1 lone 0 tt;
-  lone_cost = refl;
-  lone_values = refl;
-  sworn_steps = finished_after moments_sworn_first 2 sworn_pair 2 tt;
-  sworn_cost = refl;
-  sworn_values = refl;
-}
+figures =
+    composed moments line timed moment_words "<" "<" ("<" ∷ []) tt
+    ▸ composed moments line timed moment_words "<" ">" ("=" ∷ "<" ∷ ">" ∷ []) tt
+    ▸ composed spells timeline spelled spell_words "p" "p" ("p" ∷ []) tt
+    ▸ composed spells timeline spelled spell_words "m" "m" ("p" ∷ []) tt
+    ▸ composed spells timeline spelled spell_words "o" "o" ("p" ∷ "m" ∷ "o" ∷ []) tt
+    ▸ composed spells timeline spelled spell_words "s" "f" ("d" ∷ []) tt
+    ▸ composed dwellings compass charted dwelling_words "n" "e" ("ne" ∷ []) tt
+    ▸ composed dwellings compass charted dwelling_words "n" "s" ("eq" ∷ "n" ∷ "s" ∷ []) tt
+    ▸ record { first = refl; second = refl }
+    ▸ record { solved = record { steps = finished_after moments_by_weight 3 household 18 tt; costs = refl; gives = refl }; floor = refl; first = refl; second = refl }
+    ▸ record { steps = finished_after moments_by_weight 1 lone 0 tt; costs = refl; gives = refl }
+    ▸ record { steps = finished_after moments_sworn_first 2 sworn_pair 2 tt; costs = refl; gives = refl }
+    ▸ tt

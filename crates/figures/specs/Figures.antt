@@ -10,8 +10,7 @@ use Rattle.dwellings.specs.Dwellings.{dwelling_words, dwellings}
 use Rattle.spells.specs.Spells.{spells, spell, spell_words}
 use Rattle.tallies.specs.Weights.{by_weight}
 use Rattle.rules.specs.Costs.{sheet_bound}
-use Rattle.rules.specs.Steps.{opening, best_cost}
-use Rattle.figures.specs.Small.{moments_by_weight, moments_sworn_first, household, lone, sworn_pair, searched, charged, values, FinishedAfter}
+use Rattle.figures.specs.Small.{moments_by_weight, moments_sworn_first, household, lone, sworn_pair, searched, charged, Solved}
 
 -- the code that a word stands for; 64, which is no code, if none
 abbrev pub code : List (List ℕ) → String → ℕ
@@ -21,40 +20,51 @@ code words word = unwrap_or (read words (codes word)) 64
 abbrev pub Composed : {V : Type 0} → Meaning V → List (List ℕ) → String → String → List String → Type 0
 Composed m words first second these = (e : ℕ) → Fits m (code words first) (code words second) e ↔ Has e (map (code words) these)
 
--- The table of figures.
-pub record Figures : Type 0 where
-  -- M (<, <): <
-  pub before_before : Composed moments moment_words "<" "<" ("<" ∷ [])
-  -- M (<, >): all three
-  pub before_after : Composed moments moment_words "<" ">" ("=" ∷ "<" ∷ ">" ∷ [])
-  -- S (p, p): p
-  pub precedes_precedes : Composed spells spell_words "p" "p" ("p" ∷ [])
-  -- S (m, m): p
-  pub meets_meets : Composed spells spell_words "m" "m" ("p" ∷ [])
-  -- S (o, o): p, m, o
-  pub overlaps_overlaps : Composed spells spell_words "o" "o" ("p" ∷ "m" ∷ "o" ∷ [])
-  -- S (s, f): d
-  pub starts_finishes : Composed spells spell_words "s" "f" ("d" ∷ [])
-  -- D (n, e): ne
-  pub north_east : Composed dwellings dwelling_words "n" "e" ("ne" ∷ [])
-  -- D (n, s): eq, n, s
-  pub north_south : Composed dwellings dwelling_words "n" "s" ("eq" ∷ "n" ∷ "s" ∷ [])
-  -- two spells with m are written (0, 1) and (1, 3)
-  pub meeting_first : spell 2 (code spell_words "m" ∷ []) 0 ≡ record { start = 0; end = 1 }
-  pub meeting_second : spell 2 (code spell_words "m" ∷ []) 1 ≡ record { start = 1; end = 3 }
-  -- the household, M 3 w: finished after exactly 18 steps, with the cost 2, where the floor is 0
-  pub household_steps : FinishedAfter moments_by_weight 3 household 18
-  pub household_cost : best_cost moments_by_weight household (searched moments_by_weight 3 household 18) ≡ 2
-  pub household_floor : sheet_bound by_weight nat_le moments.codes 3 household ≡ 0
-  -- its moments are 1, 2 and 0; person 1 is charged 2, and person 2 nothing
-  pub household_values : values 3 (searched moments_by_weight 3 household 18) ≡ 1 ∷ 2 ∷ 0 ∷ []
-  pub household_first : charged moments_by_weight household (searched moments_by_weight 3 household 18) 1 ≡ 2
-  pub household_second : charged moments_by_weight household (searched moments_by_weight 3 household 18) 2 ≡ 0
-  -- the lone moment, M 1 w: finished at the opening, without a step, with the cost 0; the moment is 0
-  pub lone_steps : FinishedAfter moments_by_weight 1 lone 0
-  pub lone_cost : best_cost moments_by_weight lone (opening 1) ≡ 0
-  pub lone_values : values 1 (opening 1) ≡ 0 ∷ []
-  -- the sworn pair, M 2 r: finished after exactly 2 steps, with the cost (0 sworn, weight 900); its moments are 1 and 0
-  pub sworn_steps : FinishedAfter moments_sworn_first 2 sworn_pair 2
-  pub sworn_cost : best_cost moments_sworn_first sworn_pair (searched moments_sworn_first 2 sworn_pair 2) ≡ record { sworn = 0; weight = 900 }
-  pub sworn_values : values 2 (searched moments_sworn_first 2 sworn_pair 2) ≡ 1 ∷ 0 ∷ []
+-- Two spells with m are written (0, 1) and (1, 3).
+pub record Meeting : Type 0 where
+  pub first : spell 2 (code spell_words "m" ∷ []) 0 ≡ record { start = 0; end = 1 }
+  pub second : spell 2 (code spell_words "m" ∷ []) 1 ≡ record { start = 1; end = 3 }
+
+-- The household, M 3 w: finished after exactly 18 steps, with the cost 2, where the floor is 0; its moments are 1, 2 and 0. Person 1
+-- is charged 2, and person 2 nothing.
+pub record Household : Type 0 where
+  pub solved : Solved moments_by_weight 3 household 18 2 (1 ∷ 2 ∷ 0 ∷ [])
+  pub floor : sheet_bound by_weight nat_le moments.codes 3 household ≡ 0
+  pub first : charged moments_by_weight household (searched moments_by_weight 3 household 18) 1 ≡ 2
+  pub second : charged moments_by_weight household (searched moments_by_weight 3 household 18) 2 ≡ 0
+
+-- The table of figures, line by line.
+abbrev pub table : List (Type 0)
+table =
+    -- M (<, <): <
+    Composed moments moment_words "<" "<" ("<" ∷ [])
+    -- M (<, >): all three
+    ∷ Composed moments moment_words "<" ">" ("=" ∷ "<" ∷ ">" ∷ [])
+    -- S (p, p): p
+    ∷ Composed spells spell_words "p" "p" ("p" ∷ [])
+    -- S (m, m): p
+    ∷ Composed spells spell_words "m" "m" ("p" ∷ [])
+    -- S (o, o): p, m, o
+    ∷ Composed spells spell_words "o" "o" ("p" ∷ "m" ∷ "o" ∷ [])
+    -- S (s, f): d
+    ∷ Composed spells spell_words "s" "f" ("d" ∷ [])
+    -- D (n, e): ne
+    ∷ Composed dwellings dwelling_words "n" "e" ("ne" ∷ [])
+    -- D (n, s): eq, n, s
+    ∷ Composed dwellings dwelling_words "n" "s" ("eq" ∷ "n" ∷ "s" ∷ [])
+    ∷ Meeting
+    ∷ Household
+    -- the lone moment, M 1 w: finished at the opening, without a step, with the cost 0; the moment is 0
+    ∷ Solved moments_by_weight 1 lone 0 0 (0 ∷ [])
+    -- the sworn pair, M 2 r: finished after exactly 2 steps, with the cost (0 sworn, weight 900); its moments are 1 and 0
+    ∷ Solved moments_sworn_first 2 sworn_pair 2 (record { sworn = 0; weight = 900 }) (1 ∷ 0 ∷ [])
+    ∷ []
+
+-- each line of a list holds
+abbrev pub EachHolds : List (Type 0) → Type 0
+EachHolds [] = Unit {0}
+EachHolds (line ∷ lines) = line × EachHolds lines
+
+-- Each line of the table of figures holds.
+abbrev pub Figures : Type 0
+Figures = EachHolds table

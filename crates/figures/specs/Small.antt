@@ -9,7 +9,7 @@ use Rattle.tallies.specs.Sworn.{sworn_first, sworn_order}
 use Rattle.tallies.specs.declared.sworn_first.SwornCost.{SwornCost}
 use Rattle.rules.specs.declared.row.Row.{Row}
 use Rattle.rules.specs.Costs.{charge}
-use Rattle.rules.specs.Steps.{Rules, Position, opening, finished, advance, taken}
+use Rattle.rules.specs.Steps.{Rules, Position, opening, finished, advance, best_cost, taken}
 use Rattle.rules.specs.Soundness.{rules}
 
 -- Moments by weight (M w), and moments sworn first (M r).
@@ -66,3 +66,9 @@ pub record FinishedAfter {C : Type 0} (r : Rules C) (n : ℕ) (rows : List Row) 
   pub ended : finished r n (searched r n rows k) ≡ true
   -- and asked for k or more, it takes k
   pub exactly : (asked : ℕ) → k ≤ asked → taken r n rows asked (opening n) ≡ k
+
+-- The search of a sheet is finished after exactly k steps, with this cost and these values of the items.
+pub record Solved {C : Type 0} (r : Rules C) (n : ℕ) (rows : List Row) (k : ℕ) (cost : C) (found : List ℕ) : Type 0 where
+  pub steps : FinishedAfter r n rows k
+  pub costs : best_cost r rows (searched r n rows k) ≡ cost
+  pub gives : values n (searched r n rows k) ≡ found

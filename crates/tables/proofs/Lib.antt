@@ -1,2 +1,3 @@
 -- The lemmas of the proofs.
 mod Unions
+mod Entries

@@ -1,6 +1,7 @@
 -- Sets of one base relation, and unions of sets of base relations, as bits.
-use Rattle.std.proofs.Common.{◌≡◌, ℕ, ◌+◌, ◌^◌, ◌<◌, ◌≤◌, Bool, true, false, Decides, Option, cond, List, [], ◌∷◌, ◌++◌, sym, refl, ◌∙◌, subst, inl, inr, arith, zero-add}
+use Rattle.std.proofs.Common.{◌≡◌, ℕ, ◌^◌, ◌<◌, ◌≤◌, Bool, true, Decides, Option, cond, Bor, List, [], map, ◌∷◌, ◌++◌, sym, refl, ◌∙◌, subst, inl, inr, arith, zero-add}
 use Rattle.std.specs.List.{All, Contains, FoldsTo, filter, range_with_len}
+use Rattle.std.proofs.lemmas.List.{map-append}
 use Rattle.std.specs.Iterator.{Drains}
 use Rattle.std.specs.Fn.{Called}
 use denote.Param.Members.{Mut}
@@ -13,7 +14,7 @@ use Rattle.std.proofs.lemmas.Bool.{both_ways, cases_Bool, cases_lt, eqb-true, eq
 use Rattle.points.specs.Sets.{has}
 use Rattle.points.proofs.United.{has_none, has_single, has_union}
 use Rattle.points.proofs.Tabled.{has_beyond}
-use Rattle.tables.specs.Relations.{Single, Union}
+use Rattle.tables.specs.Relations.{Single, Union, UnionOf}
 
 never : (c : ℕ) → c < 0 → ⊥
 never c l = omega arith
@@ -25,20 +26,14 @@ single_bit c small e = (
   λ p. has_single c e ∙ eq-eqb e c p.0,
 )
 
--- The union of the sets that are given at the items of a list
-abbrev pub Over : (ℕ → ℕ → Type 0) → List ℕ → ℕ → Type 0
-Over Gives items set =
-    ((e : ℕ) → has set e ≡ true → (c : ℕ) × Contains items c × (given : ℕ) × Gives c given × (has given e ≡ true))
-    × ((c : ℕ) → Contains items c → (given : ℕ) × Gives c given × ((e : ℕ) → has given e ≡ true → has set e ≡ true))
-
-pub over_none : (Gives : ℕ → ℕ → Type 0) → Over Gives [] 0
+pub over_none : {A : Type 0} (Gives : A → ℕ → Type 0) → UnionOf Gives [] 0
 over_none Gives = (λ e p. absurd (both_ways (has 0 e) (has_none e) p), λ c i. absurd (never i.0 i.1))
 
-pub over_more : (Gives : ℕ → ℕ → Type 0) (items : List ℕ) (set n more : ℕ) → Over Gives items set → Gives n more →
-    Over Gives (items ++ n ∷ []) (bit_or set more)
-over_more Gives items set n more old new = (forth, back)
+pub over_more : {A : Type 0} (Gives : A → ℕ → Type 0) (items : List A) (set : ℕ) (n : A) (more : ℕ) → UnionOf Gives items set → Gives n more →
+    UnionOf Gives (items ++ n ∷ []) (bit_or set more)
+over_more {A} Gives items set n more old new = (forth, back)
   where
-    forth : (e : ℕ) → has (bit_or set more) e ≡ true → (c : ℕ) × Contains (items ++ n ∷ []) c × (given : ℕ) × Gives c given × (has given e ≡ true)
+    forth : (e : ℕ) → has (bit_or set more) e ≡ true → (c : A) × Contains (items ++ n ∷ []) c × (given : ℕ) × Gives c given × (has given e ≡ true)
     forth e p = elim (or_cases (has set e) (has more e) (sym (has_union set more e) ∙ p)) [
       | inl q ↦ (let (c, i, given, gives, h) = old.0 e q in (c, Contains-append_left items (n ∷ []) c i, given, gives, h))
       | inr q ↦ (n, Contains-push items n, more, new, q)
@@ -47,28 +42,35 @@ over_more Gives items set n more old new = (forth, back)
     wider : (given : ℕ) → ((e : ℕ) → has given e ≡ true → has set e ≡ true) → (e : ℕ) → has given e ≡ true → has (bit_or set more) e ≡ true
     wider given within e h = has_union set more e ∙ or_left (has set e) (has more e) (within e h)
 
-    here : (c : ℕ) → n ≡ c → (given : ℕ) × Gives c given × ((e : ℕ) → has given e ≡ true → has (bit_or set more) e ≡ true)
-    here c same = (more, subst (λ (k : ℕ). Gives k more) same new, λ e h. has_union set more e ∙ or_right (has set e) (has more e) h)
+    here : (c : A) → n ≡ c → (given : ℕ) × Gives c given × ((e : ℕ) → has given e ≡ true → has (bit_or set more) e ≡ true)
+    here c same = (more, subst (λ (k : A). Gives k more) same new, λ e h. has_union set more e ∙ or_right (has set e) (has more e) h)
 
-    back : (c : ℕ) → Contains (items ++ n ∷ []) c → (given : ℕ) × Gives c given × ((e : ℕ) → has given e ≡ true → has (bit_or set more) e ≡ true)
+    back : (c : A) → Contains (items ++ n ∷ []) c → (given : ℕ) × Gives c given × ((e : ℕ) → has given e ≡ true → has (bit_or set more) e ≡ true)
     back c i = elim (Contains-push_cases items n c i) [
       | inl before ↦ (let (given, gives, within) = old.1 c before in (given, gives, wider given within))
       | inr same ↦ here c same
     ]
+
+-- the same, where the items are what references point to
+pub over_push : {A : Type 0} (Gives : A → ℕ → Type 0) (items : List (Bor A)) (set : ℕ) (x : Bor A) (more : ℕ) → UnionOf Gives (map (λ y. y.now) items) set →
+    Gives x.now more → UnionOf Gives (map (λ y. y.now) (items ++ x ∷ [])) (bit_or set more)
+over_push Gives items set x more old new =
+    subst (λ xs. UnionOf Gives xs (bit_or set more)) (sym (map-append (λ y. y.now) items (x ∷ [])))
+    (over_more Gives (map (λ y. y.now) items) set x.now more old new)
 
 -- a fold whose closure unites what it has with a set that is given at the item
 pub over_fold : {S F : Type 0} {steps : S → Option ℕ → S → Type 0} {g : Mut F (ℕ × (ℕ × Unit {0})) ℕ} {f : F} {s : S} {r : ℕ} →
     (xs : List ℕ) × (f' : F) × Drains steps s xs × FoldsTo {P = F × ℕ} (λ p x q. Called g p.0 (p.1, (x, tt)) q.1 q.0) (f, 0) xs (f', r) →
     (Gives : ℕ → ℕ → Type 0) (items : List ℕ) → YieldsList steps (λ x. x) s items →
     ((a n b : ℕ) (f' : F) → Called g f (a, (n, tt)) b f' → (f' ≡ f) × ((given : ℕ) × Gives n given × (b ≡ bit_or a given))) →
-    Over Gives items r
+    UnionOf Gives items r
 over_fold {S} {F} {steps} {g} {f} {s} {r} ran Gives items yields calls =
-    fold_over steps (λ x. x) g (Over Gives) f step s items 0 r yields.runs (over_none Gives) ran
+    fold_over steps (λ x. x) g (UnionOf Gives) f step s items 0 r yields.runs (over_none Gives) ran
   where
-    step : (ys : List ℕ) (a x b : ℕ) (f' : F) → Over Gives ys a → Called g f (a, (x, tt)) b f' → Over Gives (ys ++ x ∷ []) b × (f' ≡ f)
+    step : (ys : List ℕ) (a x b : ℕ) (f' : F) → UnionOf Gives ys a → Called g f (a, (x, tt)) b f' → UnionOf Gives (ys ++ x ∷ []) b × (f' ≡ f)
     step ys a x b f' over called =
         let (same, (given, gives, is)) = calls a x b f' called in
-        (subst (Over Gives (ys ++ x ∷ [])) (sym is) (over_more Gives ys a x given over gives), same)
+        (subst (UnionOf Gives (ys ++ x ∷ [])) (sym is) (over_more Gives ys a x given over gives), same)
 
 -- a member of a set of 64 bits is below 64
 member_below : (set c : ℕ) → set < 2 ^ 64 → has set c ≡ true → c < 64
@@ -109,14 +111,14 @@ member_is : (set c : ℕ) → set < 2 ^ 64 → has set c ≡ true → Contains (
 member_is set c small h = Contains-filter (has set) (range_with_len 0 64) c (range_contains 64 c (member_below set c small h)) h
 
 -- the union over the list of the members is that over the set
-pub over_members : (Gives : ℕ → ℕ → Type 0) (items set : ℕ) → items < 2 ^ 64 → Over Gives (members items) set → Union items Gives set
+pub over_members : (Gives : ℕ → ℕ → Type 0) (items set : ℕ) → items < 2 ^ 64 → UnionOf Gives (members items) set → Union items Gives set
 over_members Gives items set small over = (
   λ e p. let (c, i, given, gives, h) = over.0 e p in (c, is_member items c i, given, gives, h),
   λ c h. over.1 c (member_is items c small h),
 )
 
 -- the union of the sets of one code over the codes of a kind, which has at most 64
-pub over_codes : (codes set : ℕ) → codes ≤ 64 → Over Single (range_with_len 0 codes) set → (e : ℕ) → Decides (has set e) (e < codes)
+pub over_codes : (codes set : ℕ) → codes ≤ 64 → UnionOf Single (range_with_len 0 codes) set → (e : ℕ) → Decides (has set e) (e < codes)
 over_codes codes set few over e = (
   λ p. let (c, i, given, one, h) = over.0 e p in subst (λ (k : ℕ). k < codes) (sym ((one e).0 h).0) (All-contains (λ k. k < codes) (range_with_len 0 codes) c all i),
   λ l. let (given, one, within) = over.1 e (range_contains codes e l) in within e ((one e).1 (refl, omega (arith, l, few))),
@@ -124,4 +126,4 @@ over_codes codes set few over e = (
   where
     all : All (λ k. k < codes) (range_with_len 0 codes)
     all = All-from_get_or (λ k. k < codes) (range_with_len 0 codes) 0 (λ i l. let below : i < codes = subst (λ (n : ℕ). i < n) (length-range_with_len 0 codes) l in
-      subst (λ (k : ℕ). k < codes) (sym (get_or-range_with_len 0 codes i 0 below ∙ zero-add i)) below)
+        subst (λ (k : ℕ). k < codes) (sym (get_or-range_with_len 0 codes i 0 below ∙ zero-add i)) below)

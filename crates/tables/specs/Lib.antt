@@ -1,3 +1,4 @@
 -- The definitions that the contracts cite.
 pub mod Relations
 pub mod Scores
+pub mod Letters

@@ -1,5 +1,6 @@
 -- Sets of base relations of a kind, as bits: sets of one, converses and compositions.
-use Rattle.std.specs.Prelude.{◌≡◌, ℕ, ◌<◌, true, Decides}
+use Rattle.std.specs.Prelude.{◌≡◌, ℕ, ◌<◌, true, Decides, List}
+use Rattle.std.specs.List.{Contains}
 use Rattle.points.specs.Sets.{has}
 use Rattle.kinds.specs.Meaning.{Meaning, Fits}
 
@@ -37,3 +38,9 @@ abbrev pub Union : ℕ → (ℕ → ℕ → Type 0) → ℕ → Type 0
 Union members Gives set =
     ((e : ℕ) → has set e ≡ true → (c : ℕ) × (has members c ≡ true) × (given : ℕ) × Gives c given × (has given e ≡ true))
     × ((c : ℕ) → has members c ≡ true → (given : ℕ) × Gives c given × ((e : ℕ) → has given e ≡ true → has set e ≡ true))
+
+-- The set is the union of the sets that are given at the items of a list, each of which is given one.
+abbrev pub UnionOf : {A : Type 0} → (A → ℕ → Type 0) → List A → ℕ → Type 0
+UnionOf {A} Gives items set =
+    ((e : ℕ) → has set e ≡ true → (x : A) × Contains items x × (given : ℕ) × Gives x given × (has given e ≡ true))
+    × ((x : A) → Contains items x → (given : ℕ) × Gives x given × ((e : ℕ) → has given e ≡ true → has set e ≡ true))

@@ -29,6 +29,9 @@ fn union_over<F: Fn(u8) -> u64>(set: u64, gives: F) -> u64
         .fold(0, |found, code| found | gives(code))
 }
 
+// The crate `statements`, which this program does not use, has such a function that leaves out numbers that are no codes; here they
+// have the converse that the kind gives them.
+
 /// The set of the converses of the members of a set.
 pub(crate) fn converses<K: Kind>(set: u64) -> u64
     ensures { Converses K.Kind.meaning set result }

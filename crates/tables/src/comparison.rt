@@ -4,7 +4,7 @@ ghost use Rattle.tables.specs.Relations.{Whole};
 ghost use Rattle.tables.specs.Scores.{score_after};
 
 use crate::algebra::{single, whole};
-use crate::literature::{Letters, Table};
+use crate::letters::Letters;
 use crate::published::{
     DIRECTION_CONVERSES, DIRECTION_LETTERS, DIRECTIONS, Direction, Entries, INTERVAL_CONVERSES,
     INTERVAL_LETTERS, POINT_COMPOSITIONS, POINT_CONVERSES, POINT_LETTERS, Turned,
@@ -20,6 +20,22 @@ use kinds::notation::Notation;
 use moments::Moments;
 use points::set::contains;
 use spells::Spells;
+
+/// A published table of compositions. Its columns are in the order of its rows.
+#[derive(Clone, Copy)]
+struct Table<'a> {
+    letters: Letters<'a>,
+    rows: &'a [Entries],
+}
+
+impl Table<'_> {
+    /// The published composition of two relations, or none where it cannot be read.
+    fn composition<K: Notation>(self, first: &str, second: &str) -> Option<u64> {
+        let row = self.rows.iter().find(|row| row.letter == first)?;
+        let column = self.rows.iter().position(|row| row.letter == second)?;
+        self.letters.set::<K>(row.entries.get(column)?)
+    }
+}
 
 /// A published table as it is held against ours: the base relations that were met in it, and how many of its entries agree.
 #[derive(Clone, Copy, Default)]
@@ -44,7 +60,11 @@ impl Comparison {
         if ours != published {
             let (first, second) = relations;
             let letter = char::from(K::letter());
-            print!(rt; "  differs: {letter} {} {}: ours", K::word(first), K::word(second))?;
+            print!(rt;
+                "  differs: {letter} {} {}: ours",
+                K::word(first),
+                K::word(second)
+            )?;
             print_set::<K>(rt, ours)?;
             print!(rt; ", published")?;
             print_set::<K>(rt, published)?;
@@ -154,7 +174,12 @@ fn hold_identity(rt: HostRuntime, table: Table, identity: u8) -> anyhow::Result<
 }
 
 /// The published composition of two directions: those whose two parts are each in the composition of the parts.
-fn composed_directions(points: Table, first: &Direction, second: &Direction) -> Option<u64> {
+fn composed_directions(
+    letters: Letters,
+    points: Table,
+    first: &Direction,
+    second: &Direction,
+) -> Option<u64> {
     let east = points.composition::<Moments>(first.eastward, second.eastward)?;
     let north = points.composition::<Moments>(first.northward, second.northward)?;
     let mut found = 0;
@@ -162,7 +187,7 @@ fn composed_directions(points: Table, first: &Direction, second: &Direction) -> 
         let eastward = points.letters.code::<Moments>(direction.eastward)?;
         let northward = points.letters.code::<Moments>(direction.northward)?;
         if contains(east, eastward) && contains(north, northward) {
-            found |= Letters(&DIRECTION_LETTERS).set::<Dwellings>(direction.letter)?;
+            found |= letters.set::<Dwellings>(direction.letter)?;
         }
     }
     Some(found)
@@ -176,7 +201,7 @@ fn hold_directions(rt: HostRuntime, letters: Letters, points: Table) -> anyhow::
         comparison.met |= single(r);
         for second in &DIRECTIONS {
             let s = letters.read::<Dwellings>(second.letter)?;
-            let published = composed_directions(points, first, second);
+            let published = composed_directions(letters, points, first, second);
             comparison.hold_composition::<Dwellings>(rt, (r, s), published)?;
         }
     }

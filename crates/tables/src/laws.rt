@@ -1,4 +1,4 @@
-// The laws of a relation algebra, tried over the base relations of a kind.
+// The laws of a relation algebra, tried over the base relations of a kind, which are told by their codes.
 use crate::algebra::{compositions, converses, single};
 use crate::score::Score;
 use kinds::composition::compose;
@@ -18,6 +18,8 @@ enum AlgebraLaw {
 }
 
 impl AlgebraLaw {
+    // The names stand here and in no `Display`, since the two laws of the identity are counted under one.
+
     /// The laws by the names under which they are counted.
     const NAMED: [(&'static str, &'static [AlgebraLaw]); 5] = [
         (
@@ -36,9 +38,8 @@ impl AlgebraLaw {
     /// How many second and third relations there are to an instance, of b relations.
     fn extent(self, b: u8) -> (u8, u8) {
         match self {
-            AlgebraLaw::LeftIdentity
-            | AlgebraLaw::RightIdentity
-            | AlgebraLaw::ConverseOfConverse => (1, 1),
+            AlgebraLaw::LeftIdentity | AlgebraLaw::RightIdentity | AlgebraLaw::ConverseOfConverse =>
+                (1, 1),
             AlgebraLaw::ConverseOfComposition => (b, 1),
             AlgebraLaw::Associativity | AlgebraLaw::Cycle => (b, b),
         }
@@ -74,7 +75,12 @@ fn try_instance<K: Kind + Notation>(
 ) -> io::Result<()> {
     let holds = law.holds::<K>(r, s, t);
     if !holds {
-        println!(rt; "  fails: {name} at {} {} {}", K::word(r), K::word(s), K::word(t))?;
+        println!(rt;
+            "  fails: {name} at {} {} {}",
+            K::word(r),
+            K::word(s),
+            K::word(t)
+        )?;
     }
     score.count(holds);
     Ok(())

@@ -4,7 +4,7 @@
 mod algebra;
 mod comparison;
 mod laws;
-mod literature;
+mod letters;
 mod published;
 mod relations;
 mod score;
@@ -28,6 +28,7 @@ fn print_summary(rt: HostRuntime, differ: u32) -> io::Result<()> {
     }
 }
 
+// A kind is a type, so each has a call of its own.
 fn main(rt: HostRuntime) -> anyhow::Result<()> {
     print_kind::<Moments>(rt, "moments")?;
     print_kind::<Spells>(rt, "spells")?;

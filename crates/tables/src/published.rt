@@ -1,5 +1,7 @@
 // Published converses and compositions, in the notation of the literature.
 
+// The two texts of a letter, and of a converse, are told by their places: with names for them each line of the data would be four.
+
 /// A letter of the literature and what it stands for: one or more of our relation words, parted by spaces.
 pub(crate) struct Letter(pub(crate) &'static str, pub(crate) &'static str);
 

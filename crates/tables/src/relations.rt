@@ -1,4 +1,5 @@
 // The base relations of a kind, printed: their words, their converses and their compositions.
+// Base relations are told by their codes, so the loops go over ranges of codes.
 use crate::score::Score;
 use kinds::composition::compose;
 use kinds::kind::Kind;

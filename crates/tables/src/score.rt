@@ -33,5 +33,7 @@ impl Score {
 pub(crate) fn total(counts: &[u32]) -> u32
     ensures { result ≡ min (sum counts.now) u32.MAX }
 {
-    counts.iter().fold(0u32, |sum, count| sum.saturating_add(*count))
+    counts
+        .iter()
+        .fold(0u32, |sum, count| sum.saturating_add(*count))
 }

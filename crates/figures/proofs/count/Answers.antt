@@ -1,6 +1,5 @@
-use Rattle.std.proofs.Common.{refl}
 use Rattle.figures.proofs.Figured.{figures}
 use Rattle.figures.proofs.count.Goals as goal
 
-pub returns : goal.returns
-returns c = record { hold = figures; lines = refl }
+pub returns-clause-hold : goal.returns-clause-hold
+returns-clause-hold c = figures

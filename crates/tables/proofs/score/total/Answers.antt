@@ -1,5 +1,5 @@
 -- The sum so far is that of the counts so far, capped.
-use Rattle.std.proofs.Common.{◌≡◌, ◌+◌, min, sum, subst, refl, arith, rules}
+use Rattle.std.proofs.Common.{◌≡◌, ◌+◌, min, sum, subst, refl, rules}
 use Rattle.std.proofs.lemmas.Fn.{fold_over, slice_gives, fronts}
 use Rattle.std.proofs.lemmas.List.Sums.{fold_push}
 use Rattle.tables.proofs.score.total.Goals as goal

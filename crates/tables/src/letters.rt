@@ -1,6 +1,9 @@
-// The letters and the tables of the literature, read as base relations.
+// The letters of the literature, read as base relations. The loops over the parts of a text end at one that cannot be read.
+ghost use Rattle.std.specs.Prelude.{◌≡◌, IsErr, MatchOption, option_copied};
+ghost use Rattle.tables.specs.Letters.{Entered, Named, Unnamed, Unread, meant, meant_code};
+
 use crate::algebra::single;
-use crate::published::{Entries, Letter};
+use crate::published::Letter;
 use anyhow::Context;
 use kinds::notation::Notation;
 
@@ -10,7 +13,9 @@ pub(crate) struct Letters<'a>(pub(crate) &'a [Letter]);
 
 impl Letters<'_> {
     /// The words that a letter stands for, or none where it is not among the letters.
-    fn meant(self, text: &str) -> Option<&'static str> {
+    fn meant(self, text: &str) -> Option<&'static str>
+        ensures { option_copied result ≡ meant self.entry.0.now text.now }
+    {
         self.0
             .iter()
             .find(|Letter(letter, _)| *letter == text)
@@ -18,18 +23,24 @@ impl Letters<'_> {
     }
 
     /// The code of the base relation that a letter stands for, or none where it stands for no single one.
-    pub(crate) fn code<K: Notation>(self, text: &str) -> Option<u8> {
+    pub(crate) fn code<K: Notation>(self, text: &str) -> Option<u8>
+        ensures { result ≡ meant_code K.words self.entry.0.now text.now }
+    {
         K::code(self.meant(text)?.as_bytes())
     }
 
     /// The code of the base relation that a letter stands for; an error where it stands for no single one.
-    pub(crate) fn read<K: Notation>(self, text: &str) -> anyhow::Result<u8> {
+    pub(crate) fn read<K: Notation>(self, text: &str) -> anyhow::Result<u8>
+        ensures { MatchOption (meant_code K.words self.entry.0.now text.now) (IsErr result) (λ code. result ≡ Ok code) }
+    {
         self.code::<K>(text)
             .context("a published letter cannot be read")
     }
 
     /// The set that a published entry gives: a letter, or several that are parted by spaces. None where one is unknown.
-    pub(crate) fn set<K: Notation>(self, entry: &str) -> Option<u64> {
+    pub(crate) fn set<K: Notation>(self, entry: &str) -> Option<u64>
+        ensures { MatchOption result (Unread K.words self.entry.0.now entry.now) (λ set. Entered K.words self.entry.0.now entry.now set) }
+    {
         if let Some(words) = self.meant(entry) {
             return named::<K>(words);
         }
@@ -42,26 +53,12 @@ impl Letters<'_> {
 }
 
 /// The set of the base relations that the words name, or none where one is no word of the kind.
-fn named<K: Notation>(words: &str) -> Option<u64> {
+fn named<K: Notation>(words: &str) -> Option<u64>
+    ensures { MatchOption result (Unnamed K.words words.now) (λ set. Named K.words words.now set) }
+{
     let mut set = 0;
     for word in words.split(' ') {
         set |= single(K::code(word.as_bytes())?);
     }
     Some(set)
-}
-
-/// A published table of compositions. Its columns are in the order of its rows.
-#[derive(Clone, Copy)]
-pub(crate) struct Table<'a> {
-    pub(crate) letters: Letters<'a>,
-    pub(crate) rows: &'a [Entries],
-}
-
-impl Table<'_> {
-    /// The published composition of two relations, or none where it cannot be read.
-    pub(crate) fn composition<K: Notation>(self, first: &str, second: &str) -> Option<u64> {
-        let row = self.rows.iter().find(|row| row.letter == first)?;
-        let column = self.rows.iter().position(|row| row.letter == second)?;
-        self.letters.set::<K>(row.entries.get(column)?)
-    }
 }
