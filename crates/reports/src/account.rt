@@ -26,7 +26,8 @@ fn settling(heap: Global, steps: u32) -> Result<Vec<Call>, AllocError>
     ensures { IfOk result (λ v. v.items ≡ calls_of steps) }
 {
     let mut script = vec![in heap; Call::Close, Call::Search(steps), Call::Show(12)]?;
-    for person in 1..21 {
+    // A loop: of a closure that makes a call, a proof does not see which.
+    for person in 1..=20 {
         script.push(Call::Charge(person))?;
     }
     Ok(script)

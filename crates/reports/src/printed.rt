@@ -37,14 +37,12 @@ impl PrintedKind for Moments {
     ghost value_printed = { λ v. refl };
 }
 
-/// The start first.
 impl PrintedKind for Spells {
     ghost value_text = { λ v. decimal v.start ++ 32 ∷ decimal v.end };
 
     ghost value_printed = { λ v. refl };
 }
 
-/// The east number first.
 impl PrintedKind for Dwellings {
     ghost value_text = { λ v. decimal v.east ++ 32 ∷ decimal v.north };
 
@@ -57,7 +55,6 @@ impl PrintedTally for ByWeight {
     ghost cost_printed = { λ c. refl };
 }
 
-/// The number of sworn statements, and the weight of the others.
 impl PrintedTally for SwornFirst {
     ghost cost_text = { λ c. decimal c.sworn ++ 47 ∷ decimal c.weight };
 

@@ -28,29 +28,30 @@ fn costs_text<T: PrintedTally>(
 ) -> Result<String, AllocError>
     ensures { IfOk result (λ s. string_bytes s ≡ costs_part T.PrintedTally.cost_text cost floor finished) }
 {
-    if finished {
-        format!(in heap; " cost {cost} floor {floor} final\n")
-    } else {
-        format!(in heap; " cost {cost} floor {floor} open\n")
-    }
+    let state = if finished { "final" } else { "open" };
+    format!(in heap; " cost {cost} floor {floor} {state}\n")
 }
 
 // The first line.
 fn sheet_text<K: PrintedKind, T: PrintedTally>(
     heap: Global,
     number: u64,
-    items: u64,
-    cost: T::Cost,
-    floor: T::Cost,
-    finished: bool,
+    sight: &Sight<K::Value, T::Cost>,
 ) -> Result<Vec<u8>, AllocError>
-    ensures { IfOk result (λ v. v.items ≡ sheet_line (print K.Notation.initial T.TallyLetter.initial K.PrintedKind.value_text T.PrintedTally.cost_text) number items cost floor finished) }
+    ensures { IfOk result (λ v. v.items ≡ sheet_line (print K.Notation.initial T.TallyLetter.initial K.PrintedKind.value_text T.PrintedTally.cost_text) number (length sight.now.values.items) sight.now.cost sight.now.floor sight.now.finished) }
 {
+    // In pieces, since a letter is any byte and need not be a text of its own.
+    let items = sight.values.len();
     let mut text = format!(in heap; "sheet {number} ")?.into_bytes();
     text.push(K::letter())?;
     text.extend_from_slice(format!(in heap; " {items} ")?.as_bytes())?;
     text.push(T::letter())?;
-    text.extend_from_slice(costs_text::<T>(heap, cost, floor, finished)?.as_bytes())?;
+    text.extend_from_slice(costs_text::<T>(
+        heap,
+        sight.cost,
+        sight.floor,
+        sight.finished,
+    )?.as_bytes())?;
     Ok(text)
 }
 
@@ -101,17 +102,8 @@ fn report_text<K: PrintedKind, T: PrintedTally>(
 ) -> Result<Vec<u8>, AllocError>
     ensures { IfOk result (λ v. v.items ≡ report_of (print K.Notation.initial T.TallyLetter.initial K.PrintedKind.value_text T.PrintedTally.cost_text) (λ c. T.Tally.order c T.Joins.joining.empty) report.now.number report.now.sight.now.values.items report.now.sight.now.cost report.now.sight.now.floor report.now.sight.now.finished report.now.charges.now) }
 {
-    let sight = report.sight;
-    let values = sight.values.as_slice();
-    let items = values.len() as u64;
-    let mut text = sheet_text::<K, T>(
-        heap,
-        report.number,
-        items,
-        sight.cost,
-        sight.floor,
-        sight.finished,
-    )?;
+    let values = report.sight.values.as_slice();
+    let mut text = sheet_text::<K, T>(heap, report.number, report.sight)?;
     push_lines(
         &mut text,
         values,

@@ -23,6 +23,8 @@ fn on_draft<K: Kind, T: Tally>(
     ensures { Carries K.Kind.meaning K.Kind.values (rules K.Kind.meaning K.Kind.fit T.Joins.joining T.Tally.order) (draft_view draft) call result.0 result.1 }
 {
     let mut draft = draft;
+    // Each call of the draft answers in a type of its own. `map_or_else` would say an arm in a line, but the checker does not cover a
+    // closure whose answer names a type that its argument does not.
     let answer = match call {
         Call::Size(items) => match draft.size(items) {
             Ok(()) => Answer::Done,

@@ -16,6 +16,7 @@ fn page_of<K: Kind>(heap: Global, places: u8) -> Result<Vec<K::Value>, AllocErro
 {
     let scenario: [u8; 0] = [];
     let value = K::value(0, &scenario, 0);
+    // Filled by `resize`, which copies: `vec!` clones, and a clone need not be its source.
     let mut page = Vec::new(heap);
     page.resize(places as usize, value)?;
     Ok(page)

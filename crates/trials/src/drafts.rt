@@ -21,7 +21,7 @@ const GOOD: Entry = Entry {
 
 /// The number of a refusal, if there is one.
 fn refusal<A: Copy>(answer: Result<A, Fault>) -> Option<u8> {
-    answer.err().map(|fault| fault.number())
+    answer.err().map(Fault::number)
 }
 
 /// A draft of so many items.

@@ -167,7 +167,7 @@ const STATEMENTS: [(&str, Told); 33] = [
 
 #[test]
 fn statements_refused(rt: HostRuntime) -> Result<(), Fail> {
-    let mut draft: Draft<Moments, ByWeight> = Draft::new(rt.alloc()).ok().ok_or("no memory")?;
+    let mut draft: Draft<Moments, ByWeight> = Draft::new(rt.alloc())?;
     for (file, fault) in STATEMENTS {
         let mut reader = Reader::new(file.as_bytes());
         assert!(rt; head(&mut reader) == Answer::Head(b'M', 3, b'w'), "{file}");
@@ -184,7 +184,7 @@ fn statements_refused(rt: HostRuntime) -> Result<(), Fail> {
 
 #[test]
 fn moments_loaded(rt: HostRuntime) -> Result<(), Fail> {
-    let mut draft: Draft<Moments, ByWeight> = Draft::new(rt.alloc()).ok().ok_or("no memory")?;
+    let mut draft: Draft<Moments, ByWeight> = Draft::new(rt.alloc())?;
     for file in [
         "M 3 w\n1 2 < 3 1\n2 3 < 2 1\n1 3 > 4 2\n",
         "M 3 w\n1 2 < 3 1\n2 3 < 2 1\n1 3 > 4 2",
@@ -214,7 +214,7 @@ fn moments_loaded(rt: HostRuntime) -> Result<(), Fail> {
 
 #[test]
 fn spells_loaded(rt: HostRuntime) -> Result<(), Fail> {
-    let mut draft: Draft<Spells, ByWeight> = Draft::new(rt.alloc()).ok().ok_or("no memory")?;
+    let mut draft: Draft<Spells, ByWeight> = Draft::new(rt.alloc())?;
     let file = "S 2 w\n1 2 eq/p/pi/m/mi/o/oi/s/si/d/di/f/fi 1000 20 !\n2 1 p/pi 5 1\n";
     assert!(rt; read(file.as_bytes(), &mut draft) == (Answer::Loaded, 2, 2));
     assert!(rt; look(&draft, 1) == Some((1, 2, 8191, 1000, 20, true)));
@@ -226,7 +226,7 @@ fn spells_loaded(rt: HostRuntime) -> Result<(), Fail> {
 
 #[test]
 fn dwellings_loaded(rt: HostRuntime) -> Result<(), Fail> {
-    let mut draft: Draft<Dwellings, SwornFirst> = Draft::new(rt.alloc()).ok().ok_or("no memory")?;
+    let mut draft: Draft<Dwellings, SwornFirst> = Draft::new(rt.alloc())?;
     let file = "D 4 r\n1 2 n/nw 3 1\n4 3 s 7 2 !\n1 4  1 1\n1 2 e/se/sw/w/ne/eq 1 1\n";
     assert!(rt; read(file.as_bytes(), &mut draft) == (Answer::Loaded, 4, 4));
     assert!(rt; look(&draft, 1) == Some((1, 2, 258, 3, 1, false)));
@@ -244,9 +244,9 @@ const SEVERAL: &str =
 #[test]
 fn several_sheets(rt: HostRuntime) -> Result<(), Fail> {
     let heap = rt.alloc();
-    let mut moments: Draft<Moments, ByWeight> = Draft::new(heap).ok().ok_or("no memory")?;
-    let mut sworn: Draft<Moments, SwornFirst> = Draft::new(heap).ok().ok_or("no memory")?;
-    let mut spells: Draft<Spells, SwornFirst> = Draft::new(heap).ok().ok_or("no memory")?;
+    let mut moments: Draft<Moments, ByWeight> = Draft::new(heap)?;
+    let mut sworn: Draft<Moments, SwornFirst> = Draft::new(heap)?;
+    let mut spells: Draft<Spells, SwornFirst> = Draft::new(heap)?;
     let mut reader = Reader::new(SEVERAL.as_bytes());
     // No head waits before one is asked for.
     assert!(rt; load(&mut reader, &mut moments) == (Answer::Refused(12, 0, 0, 0), 1, 0));
@@ -273,7 +273,7 @@ fn several_sheets(rt: HostRuntime) -> Result<(), Fail> {
 
 #[test]
 fn no_head(rt: HostRuntime) -> Result<(), Fail> {
-    let mut draft: Draft<Moments, ByWeight> = Draft::new(rt.alloc()).ok().ok_or("no memory")?;
+    let mut draft: Draft<Moments, ByWeight> = Draft::new(rt.alloc())?;
     // A file without lines; then one whose head waited, and is passed where there is no further head.
     for (file, first) in [
         ("", Answer::NoHead),
@@ -305,7 +305,7 @@ const LONG_SET: &str = "</</</</</</</</</</</</</</</</</</</</</</</</</</</</
 #[test]
 fn long_lines(rt: HostRuntime) -> Result<(), Fail> {
     let heap = rt.alloc();
-    let mut draft: Draft<Moments, ByWeight> = Draft::new(heap).ok().ok_or("no memory")?;
+    let mut draft: Draft<Moments, ByWeight> = Draft::new(heap)?;
     for (last, length, answer) in [
         (" 1000 2 !\n", 80, (Answer::Loaded, 3, 1)),
         (" 1000 20 !\n", 81, (Answer::Refused(17, 1, 2, 0), 3, 0)),
@@ -352,7 +352,7 @@ fn long_heads(rt: HostRuntime) -> Result<(), Fail> {
 #[test]
 fn long_sheets(rt: HostRuntime) -> Result<(), Fail> {
     let heap = rt.alloc();
-    let mut draft: Draft<Moments, ByWeight> = Draft::new(heap).ok().ok_or("no memory")?;
+    let mut draft: Draft<Moments, ByWeight> = Draft::new(heap)?;
     for (statements, answer) in [
         (256, (Answer::Loaded, 2, 256)),
         (257, (Answer::Refused(7, 1, 258, 0), 2, 0)),
@@ -366,7 +366,7 @@ fn long_sheets(rt: HostRuntime) -> Result<(), Fail> {
 #[test]
 fn long_files(rt: HostRuntime) -> Result<(), Fail> {
     let heap = rt.alloc();
-    let mut draft: Draft<Moments, ByWeight> = Draft::new(heap).ok().ok_or("no memory")?;
+    let mut draft: Draft<Moments, ByWeight> = Draft::new(heap)?;
     // 65,536 bytes, and one more.
     for (more, first, second, loaded) in [
         (

@@ -3,19 +3,16 @@ use Rattle.std.proofs.Common.{codes, ◌∙◌}
 use Rattle.std.proofs.lemmas.Result.{IfOk-weaker}
 use Rattle.reports.proofs.Lined.{five_texts}
 use Rattle.reports.proofs.report.costs_text.Goals as goal
+use Rattle.reports.proofs.report.costs_text.Goals.{then-finished, else-finished}
 
-pub returns-then-finished : goal.returns-then-finished
-returns-then-finished g c =
+pub returns : goal.returns
+returns g c =
     let text = g.T.PrintedTally.cost_text in
     let cost = g.met.T.PrintedTally.cost_printed c.args.cost in
     let floor = g.met.T.PrintedTally.cost_printed c.args.floor in
-    rw c.if-finished.true (IfOk-weaker c.format.result _ _
-    (λ s h. rw (cost, floor) at h ∙ five_texts (codes " cost ") (text c.args.cost) (codes " floor ") (text c.args.floor) (codes " final\n")) c.format.ensures.ok)
-
-pub returns-else-finished : goal.returns-else-finished
-returns-else-finished g c =
-    let text = g.T.PrintedTally.cost_text in
-    let cost = g.met.T.PrintedTally.cost_printed c.args.cost in
-    let floor = g.met.T.PrintedTally.cost_printed c.args.floor in
-    rw c.if-finished.false (IfOk-weaker c.format-else-finished.result _ _
-    (λ s h. rw (cost, floor) at h ∙ five_texts (codes " cost ") (text c.args.cost) (codes " floor ") (text c.args.floor) (codes " open\n")) c.format-else-finished.ensures.ok)
+    elim c.if-finished.branch [
+      | then-finished w ↦ rw w.if-finished.true (IfOk-weaker c.format.result _ _
+          (λ s h. rw (cost, floor, w.state-is) at h ∙ five_texts (codes " cost ") (text c.args.cost) (codes " floor ") (text c.args.floor) (codes " final\n")) c.format.ensures.ok)
+      | else-finished w ↦ rw w.if-finished.false (IfOk-weaker c.format.result _ _
+          (λ s h. rw (cost, floor, w.state-is) at h ∙ five_texts (codes " cost ") (text c.args.cost) (codes " floor ") (text c.args.floor) (codes " open\n")) c.format.ensures.ok)
+    ]
