@@ -189,10 +189,12 @@ impl Kind for Dwellings {
     }
 
     fn fits(c: u8, d: u8, e: u8) -> bool {
+        // The kind's own table: a body in the trait could name none without owing a table of every kind.
         contains(look_up(&TABLE, c, d), e)
     }
 
     fn value(items: u8, scenario: &[u8], item: u8) -> Dwelling {
+        // Each field is a rank of its own.
         Dwelling {
             east: EASTWARD.rank(items, scenario, item, 0),
             north: NORTHWARD.rank(items, scenario, item, 0),

@@ -1,42 +1,85 @@
 -- The set of the codes that fit, gathered one by one.
-use Rattle.std.proofs.Common.{◌≡◌, ℕ, ◌+◌, ◌^◌, ◌<◌, ◌≤◌, Bool, true, false, Decides, sym, ◌∙◌, subst, inl, inr, arith}
-use Rattle.std.proofs.lemmas.Bool.{cases_lt, cases_order, cases_Bool}
+use Rattle.std.proofs.Common.{◌≡◌, ℕ, ◌+◌, ◌-◌, ◌*◌, ◌%◌, ◌^◌, ◌<◌, ◌≤◌, Bool, true, Decides, Option, cond, List, [], ◌∷◌, ◌++◌, sym, ap, ◌∙◌, subst, inl, inr, arith, pow-add, zero-add}
+use Rattle.std.proofs.Math.Nat.{mul-mod_left}
+use Rattle.std.specs.List.{Contains, FoldsTo, filter, range_with_len}
+use Rattle.std.specs.Iterator.{Drains}
+use Rattle.std.specs.Fn.{Called}
+use denote.Param.Members.{Mut}
+use lib.Bits.{bit_or}
+use Rattle.std.proofs.lemmas.Nat.{one_shl}
+use Rattle.std.proofs.lemmas.Iterator.{YieldsList}
+use Rattle.std.proofs.lemmas.Fn.{fold_over}
+use Rattle.std.proofs.lemmas.List.Elements.{All-contains, Contains-append_cases, Contains-append_left, Contains-append_right, Contains-get_or, Contains-push, Contains-push_cases, filter_passes}
+use Rattle.std.proofs.lemmas.List.FromFn.{get_or-range_with_len, length-range_with_len}
+use Rattle.std.proofs.lemmas.Bool.{both_ways, cases_Bool, cases_lt, eqb-true, eq-eqb, or_cases, or_left, or_right}
 use Rattle.points.specs.Sets.{has}
-use Rattle.points.proofs.Inserted.{has_add_below, has_add_here, add_below, set_below}
-use Rattle.points.proofs.Tabled.{has_beyond}
+use Rattle.points.proofs.United.{has_none, has_single, has_union}
 use Rattle.kinds.specs.Meaning.{Meaning, Laws, Fits}
 use Rattle.kinds.specs.Composition.{Composition}
-use Rattle.kinds.proofs.Framed.{decides_as}
 
--- the set has, of the codes below e, those that pass
-abbrev pub Gathered : (ℕ → Bool) → ℕ → ℕ → Type 0
-Gathered f set e = (set < 2 ^ e) × ((k : ℕ) → k < e → has set k ≡ f k)
+-- the codes below 64 that pass, in their order
+abbrev pub codes_that_fit : (ℕ → Bool) → List ℕ
+codes_that_fit f = filter f (range_with_len 0 64)
 
-pub gather : (f : ℕ → Bool) (set e : ℕ) → Gathered f set e → f e ≡ true → Gathered f (set + 2 ^ e) (e + 1)
-gather f set e g p = (
-  add_below set e g.0,
-  λ k l. elim (cases_order k e) [
-    | inl d ↦ subst (λ (i : ℕ). has (set + 2 ^ e) i ≡ f i) (sym d) (has_add_here set e g.0 ∙ sym p)
-    | inr (inl b) ↦ has_add_below set e k b ∙ g.1 k b
-    | inr (inr o) ↦ absurd (between k l o)
-  ],
-)
+-- the set has the numbers of the list that are below 64, and no others
+abbrev pub Collected : List ℕ → ℕ → Type 0
+Collected items set = (e : ℕ) → (has set e ≡ true → Contains items e) × (e < 64 → Contains items e → has set e ≡ true)
+
+never : (c : ℕ) → c < 0 → ⊥
+never c l = omega arith
+
+none : Collected [] 0
+none e = (λ p. absurd (both_ways (has 0 e) (has_none e) p), λ l i. absurd (never i.0 i.1))
+
+-- the bit of a number from 64 on falls out of the word
+bit_beyond : (x : ℕ) → 64 ≤ x → (1 * 2 ^ x) % 2 ^ 64 ≡ 0
+bit_beyond x l =
+    let split : x ≡ (x - 64) + 64 = omega arith in
+    let power : 2 ^ x ≡ 2 ^ (x - 64) * 2 ^ 64 = ap (λ (n : ℕ). 2 ^ n) split ∙ pow-add 2 (x - 64) 64 in
+    let one_times : 1 * 2 ^ x ≡ 2 ^ x = omega arith in
+    ap (λ (n : ℕ). n % 2 ^ 64) (one_times ∙ power) ∙ mul-mod_left (2 ^ (x - 64)) (2 ^ 64)
+
+-- one number more
+more : (items : List ℕ) (set x : ℕ) → Collected items set → Collected (items ++ x ∷ []) (bit_or set ((1 * 2 ^ x) % 2 ^ 64))
+more items set x old e = (forth, back)
   where
-    between : (k : ℕ) → k < e + 1 → e < k → ⊥
-    between k l o = omega arith
+    bit : ℕ
+    bit = (1 * 2 ^ x) % 2 ^ 64
 
-pub pass_over : (f : ℕ → Bool) (set e : ℕ) → Gathered f set e → f e ≡ false → Gathered f set (e + 1)
-pass_over f set e g p = (
-  set_below set e g.0,
-  λ k l. elim (cases_order k e) [
-    | inl d ↦ subst (λ (i : ℕ). has set i ≡ f i) (sym d) (has_beyond set e e g.0 (omega arith) ∙ sym p)
-    | inr (inl b) ↦ g.1 k b
-    | inr (inr o) ↦ absurd (between k l o)
-  ],
-)
+    bit_is : has bit e ≡ true → x ≡ e
+    bit_is p = elim (cases_lt x 64) [
+      | inl l ↦ sym (eqb-true e x (sym (has_single x e) ∙ subst (λ (k : ℕ). has k e ≡ true) (one_shl x 64 l) p))
+      | inr l ↦ absurd (both_ways (has 0 e) (has_none e) (subst (λ (k : ℕ). has k e ≡ true) (bit_beyond x l) p))
+    ]
+
+    forth : has (bit_or set bit) e ≡ true → Contains (items ++ x ∷ []) e
+    forth p = elim (or_cases (has set e) (has bit e) (sym (has_union set bit e) ∙ p)) [
+      | inl q ↦ Contains-append_left items (x ∷ []) e ((old e).0 q)
+      | inr q ↦ subst (Contains (items ++ x ∷ [])) (bit_is q) (Contains-push items x)
+    ]
+
+    here : x ≡ e → e < 64 → has bit e ≡ true
+    here same l = subst (λ (k : ℕ). has k e ≡ true) (sym (one_shl x 64 (subst (λ (k : ℕ). k < 64) (sym same) l))) (has_single x e ∙ eq-eqb e x (sym same))
+
+    back : e < 64 → Contains (items ++ x ∷ []) e → has (bit_or set bit) e ≡ true
+    back l i = elim (Contains-push_cases items x e i) [
+      | inl before ↦ has_union set bit e ∙ or_left (has set e) (has bit e) ((old e).1 l before)
+      | inr same ↦ has_union set bit e ∙ or_right (has set e) (has bit e) (here same l)
+    ]
+
+-- a fold whose closure adds the bit of the item
+pub collect : {S F : Type 0} {steps : S → Option ℕ → S → Type 0} {g : Mut F (ℕ × (ℕ × Unit {0})) ℕ} {f : F} {s : S} {r : ℕ} →
+    (xs : List ℕ) × (f' : F) × Drains steps s xs × FoldsTo {P = F × ℕ} (λ p x q. Called g p.0 (p.1, (x, tt)) q.1 q.0) (f, 0) xs (f', r) →
+    (items : List ℕ) → YieldsList steps (λ x. x) s items →
+    ((a n b : ℕ) (f' : F) → Called g f (a, (n, tt)) b f' → (f' ≡ f) × (b ≡ bit_or a ((1 * 2 ^ n) % 2 ^ 64))) →
+    Collected items r
+collect {S} {F} {steps} {g} {f} {s} {r} ran items yields calls =
+    fold_over steps (λ x. x) g Collected f step s items 0 r yields.runs none ran
   where
-    between : (k : ℕ) → k < e + 1 → e < k → ⊥
-    between k l o = omega arith
+    step : (ys : List ℕ) (a x b : ℕ) (f' : F) → Collected ys a → Called g f (a, (x, tt)) b f' → Collected (ys ++ x ∷ []) b × (f' ≡ f)
+    step ys a x b f' over called =
+        let (same, is) = calls a x b f' called in
+        (subst (Collected (ys ++ x ∷ [])) (sym is) (more ys a x over), same)
 
 -- a code that fits is one of at most 64
 fits_below : {V : Type 0} (m : Meaning V) → Laws m → (c d e : ℕ) → Fits m c d e → e < 64
@@ -47,15 +90,34 @@ fits_below m laws c d e h =
     let few = laws.few_codes in
     omega arith
 
-pub composed : {V : Type 0} (m : Meaning V) → Laws m → (fit : ℕ → ℕ → ℕ → Bool) → ((c d e : ℕ) → Decides (fit c d e) (Fits m c d e)) →
-    (c d set : ℕ) → Gathered (fit c d) set 64 → Composition m c d set
-composed m laws fit decides c d set g e = elim (cases_lt e 64) [
-  | inl l ↦ decides_as (has set e) (fit c d e) (g.1 e l) (decides c d e)
-  | inr l ↦ (λ p. absurd (both_ways (has_beyond set 64 e g.0 l) p), λ h. absurd (no l (fits_below m laws c d e h)))
+-- a number of the list that passes is one of those that pass
+Contains-filter : (p : ℕ → Bool) (xs : List ℕ) (x : ℕ) → Contains xs x → p x ≡ true → Contains (filter p xs) x
+Contains-filter p [] x i h = absurd (never i.0 i.1)
+Contains-filter p (y ∷ ys) x i h = elim (cases_Bool (p y)) [
+  | inl passes ↦ subst (λ (b : Bool). Contains (cond b (y ∷ filter p ys) (filter p ys)) x) (sym passes) (elim (Contains-append_cases (y ∷ []) ys x i) [
+    | inl first ↦ Contains-append_left (y ∷ []) (filter p ys) x first
+    | inr later ↦ Contains-append_right (y ∷ []) (filter p ys) x (Contains-filter p ys x later h)
+  ])
+  | inr fails ↦ subst (λ (b : Bool). Contains (cond b (y ∷ filter p ys) (filter p ys)) x) (sym fails) (elim (Contains-append_cases (y ∷ []) ys x i) [
+    | inl first ↦ elim (Contains-push_cases [] y x first) [
+      | inl nowhere ↦ absurd (never nowhere.0 nowhere.1)
+      | inr same ↦ absurd (both_ways (p y) fails (subst (λ (k : ℕ). p k ≡ true) (sym same) h))
+    ]
+    | inr later ↦ Contains-filter p ys x later h
+  ])
 ]
-  where
-    both_ways : has set e ≡ false → has set e ≡ true → ⊥
-    both_ways p q = Rattle.std.proofs.lemmas.Bool.both_ways (has set e) p q
 
-    no : 64 ≤ e → e < 64 → ⊥
-    no p q = omega arith
+pub composed : {V : Type 0} (m : Meaning V) → Laws m → (fit : ℕ → ℕ → ℕ → Bool) → ((c d e : ℕ) → Decides (fit c d e) (Fits m c d e)) →
+    (c d set : ℕ) → Collected (codes_that_fit (fit c d)) set → Composition m c d set
+composed m laws fit decides c d set all e = (
+  λ p. (decides c d e).0 (passes ((all e).0 p)),
+  λ h. let small = fits_below m laws c d e h in (all e).1 small (Contains-filter (fit c d) (range_with_len 0 64) e (in_range small) ((decides c d e).1 h)),
+)
+  where
+    passes : Contains (codes_that_fit (fit c d)) e → fit c d e ≡ true
+    passes i = All-contains (λ (k : ℕ). fit c d k ≡ true) (codes_that_fit (fit c d)) e (filter_passes (fit c d) (range_with_len 0 64)) i
+
+    in_range : e < 64 → Contains (range_with_len 0 64) e
+    in_range l =
+        subst (Contains (range_with_len 0 64)) (get_or-range_with_len 0 64 e 0 l ∙ zero-add e)
+        (Contains-get_or (range_with_len 0 64) e 0 (subst (λ (k : ℕ). e < k) (sym (length-range_with_len 0 64)) l))

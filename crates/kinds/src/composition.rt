@@ -8,12 +8,7 @@ use crate::kind::Kind;
 pub fn compose<K: Kind>(c: u8, d: u8) -> u64
     ensures { Composition K.Kind.meaning c d result }
 {
-    let mut set: u64 = 0;
-    // A loop, since a proof cannot see what a closure answers that calls a kind.
-    for e in 0..64 {
-        if K::fits(c, d, e) {
-            set |= 1 << e;
-        }
-    }
-    set
+    (0..64)
+        .filter(|&e| K::fits(c, d, e))
+        .fold(0, |set, e| set | 1 << e)
 }

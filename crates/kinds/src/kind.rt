@@ -45,7 +45,7 @@ pub trait Kind {
         ensures test { result ≡ fit c d e }
         ensures exactly { Decides result (Fits meaning c d e) };
 
-    /// The value of one item of a scenario.
+    /// The value of one item of a scenario. Items and scenario are told one by one, since a scenario may be too short for its items.
     fn value(items: u8, scenario: &[u8], item: u8) -> Self::Value
         ensures { result ≡ values items scenario.now item };
 

@@ -94,6 +94,7 @@ impl Kind for Moments {
     }
 
     fn fits(c: u8, d: u8, e: u8) -> bool {
+        // The kind's own table: a body in the trait could name none without owing a table of every kind.
         contains(look_up(&TABLE, c, d), e)
     }
 

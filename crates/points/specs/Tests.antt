@@ -1,7 +1,5 @@
 -- Tests over all numbers below a bound.
 use Rattle.std.specs.Prelude.{ℕ, zero, suc, Bool, true, ◌&&◌}
--- under this name proofs of crates above cite it
-pub use Rattle.std.specs.Prelude.{◌&&◌ as both}
 
 -- every number below n passes
 abbrev pub upto : ℕ → (ℕ → Bool) → Bool

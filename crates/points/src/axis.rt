@@ -37,6 +37,7 @@ impl<const MARKS: usize> Axis<MARKS> {
             before: 0,
             after: 0,
         };
+        // A match, since in code over a const parameter a proof cannot see what a closure answers.
         match self.orders.get(s) {
             Some(row) => row.get(t).copied().unwrap_or(none),
             None => none,
@@ -90,6 +91,7 @@ impl<const MARKS: usize> Axis<MARKS> {
         ensures compares { RankLemma (ℕ × ℕ) }
         ensures is { result ≡ mark_rank (drawn self.now.orders) MARKS items scenario.now i t }
     {
+        // A loop, for the same reason.
         let mut sum = 0;
         for k in 0..items {
             sum += self.preceding(scenario, k, (i, usize::from(t)));

@@ -29,10 +29,8 @@ impl Row {
     {
         self.low < self.high
             && self.high < items
-            && 1 <= self.weight
-            && self.weight <= 1000
-            && 1 <= self.person
-            && self.person <= 20
+            && (1..=1000).contains(&self.weight)
+            && (1..=20).contains(&self.person)
     }
 
     /// Whether the row counts and is broken where its pair has the code.

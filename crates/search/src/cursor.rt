@@ -18,6 +18,7 @@ pub(crate) fn rise(cursor: &mut [u8], codes: u8, shared: usize, filled: usize) -
     ensures shares { IfSome result (λ q. take (q - 1) cursor.new ≡ take (q - 1) cursor.old) }
     ensures blank { IfSome result (λ q. Blank q cursor.new) }
 {
+    // A loop over places: whether a code rises or becomes 0 goes by its place.
     for i in (0..shared.max(filled)).rev() {
         if i < shared && cursor[i] + 1 < codes {
             cursor[i] += 1;

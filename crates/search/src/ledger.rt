@@ -15,7 +15,7 @@ pub struct Ledger<C> {
     ghost spending: { vec_len spent ≡ 67 },
 }
 
-// A list of so many copies.
+// A list of so many copies. `vec!` makes clones, of which nothing says for a type parameter that they equal the item; `resize` copies.
 fn copies<C: Copy>(heap: Global, item: C, count: usize) -> Result<Vec<C>, AllocError>
     ensures { IfOk result (λ v. v.items ≡ replicate count item) }
 {

@@ -21,7 +21,7 @@ fn all_are_proper(rows: &[Row], items: u8) -> bool
 fn can_close(items: u8, rows: &Vec<Row>, codes: u8) -> bool
     ensures { result ≡ closes items rows.now codes }
 {
-    let sized = 1 <= items && items <= 12 && 1 <= codes && codes <= 64;
+    let sized = (1..=12).contains(&items) && (1..=64).contains(&codes);
     let listed = rows.capacity() >= 256 && rows.len() <= 256;
     sized && listed && all_are_proper(rows.as_slice(), items)
 }

@@ -29,6 +29,7 @@ impl Sheet {
         requires { self.now.codes ≤ length prices.old }
         ensures { (c : ℕ) → c < self.now.codes → slice_index_or prices.new c T.Joins.joining.empty ≡ pair_cost T.Joins.joining (rows_of self.now) spot c }
     {
+        // A loop over the codes: the code is the place in the table, and the price is asked by it.
         for code in 0..self.codes {
             prices[code as usize] = self.pair_price::<T>(spot, code);
         }
@@ -40,6 +41,7 @@ impl Sheet {
         ensures priced { Priced T.Joins.joining self.now.codes (rows_of self.now) 0 (pairs_of self.now.items) prices.new }
         ensures bounded { Owed T.Joins.joining T.Tally.order self.now.codes (rows_of self.now) 0 (pairs_of self.now.items) owed.new }
     {
+        // A loop over the places of the pairs: both tables are told by them.
         let count = pairs(self.items);
         owed[count] = T::empty();
         for spot in (0..count).rev() {

@@ -59,10 +59,12 @@ impl Kind for Spells {
     }
 
     fn fits(c: u8, d: u8, e: u8) -> bool {
+        // The kind's own table: a body in the trait could name none without owing a table of every kind.
         contains(look_up(&TABLE, c, d), e)
     }
 
     fn value(items: u8, scenario: &[u8], item: u8) -> Spell {
+        // Each field is a rank of its own.
         Spell {
             start: TIMELINE.rank(items, scenario, item, 0),
             end: TIMELINE.rank(items, scenario, item, 1),

@@ -18,11 +18,6 @@ abbrev pub ByChecks : {A : Type 0} → List Check → Result A Fault → (A → 
 ByChecks checks (Ok a) P U = (first_fault checks ≡ None) × P a
 ByChecks checks (Err f) P U = (first_fault checks ≡ Some f) × U
 
--- the number of items and the rows are as they were
-pub record Unchanged (items : ℕ) (rows : List Row) (items' : ℕ) (rows' : List Row) : Type 0 where
-  pub same_items : items' ≡ items
-  pub same_rows : rows' ≡ rows
-
 -- Size: 1 to 12 items; the list is emptied.
 abbrev pub size_checks : ℕ → List Check
 size_checks n = (between 1 12 n, Size) ∷ []
