@@ -1,9 +1,9 @@
 -- The table of figures, derived from the definitions.
-use Rattle.std.proofs.Common.{◌≡◌, ℕ, ◌<◌, Bool, true, false, cond, T, eqb, ltb, List, [], ◌∷◌, map, sym, refl, ap, ◌∙◌, subst, inl, inr}
+use Rattle.std.proofs.Common.{◌≡◌, ℕ, ◌<◌, Bool, true, false, cond, ◌&&◌, T, eqb, ltb, List, [], ◌∷◌, map, sym, refl, ap, ◌∙◌, subst, inl, inr}
 use Prim.Native.String.{String}
 use Rattle.std.proofs.lemmas.Bool.{cases_lt, ltb-true, eqb-true, eq-eqb, both_ways, cases_Bool}
 use Rattle.points.specs.Ranks.{Has}
-use Rattle.points.specs.Tests.{both, upto}
+use Rattle.points.specs.Tests.{upto}
 use Rattle.points.proofs.Finite.{both_left, both_right, alike, alike_eq, true_from, upto_at}
 use Rattle.kinds.specs.Meaning.{Meaning}
 use Rattle.kinds.specs.Layouts.{Layout, fit}
@@ -25,7 +25,7 @@ among e (x ∷ xs) = cond (eqb e x) true (among e xs)
 
 abbrev below : ℕ → List ℕ → Bool
 below b [] = true
-below b (x ∷ xs) = both (ltb x b) (below b xs)
+below b (x ∷ xs) = ltb x b && below b xs
 
 has_among : (e : ℕ) (xs : List ℕ) → among e xs ≡ true → Has e xs
 has_among e [] h = absurd (subst T (sym h) tt)
@@ -49,7 +49,7 @@ below_has b e (x ∷ xs) t (inr h) = below_has b e xs (both_right (ltb x b) (bel
 
 -- One proof for every line on compositions: the test of the layout over all codes, which the checker computes.
 abbrev right_line : Layout → ℕ → ℕ → List ℕ → Bool
-right_line l c d these = both (below l.codes these) (upto l.codes (λ e. alike (fit l c d e) (among e these)))
+right_line l c d these = below l.codes these && upto l.codes (λ e. alike (fit l c d e) (among e these))
 
 pub composed : {V : Type 0} (m : Meaning V) (l : Layout) → Frame m l → (words : List (List ℕ)) (first second : String) (these : List String) →
     T (right_line l (code words first) (code words second) (map (code words) these)) → Composed m words first second these

@@ -1,7 +1,6 @@
 -- A search that is followed step by step to its end.
-use Rattle.std.proofs.Common.{◌≡◌, ℕ, zero, suc, ◌<◌, ◌≤◌, Bool, true, false, not, cond, T, List, refl, ap, ◌∙◌, arith}
+use Rattle.std.proofs.Common.{◌≡◌, ℕ, zero, suc, ◌<◌, ◌≤◌, Bool, true, false, not, ◌&&◌, cond, T, List, refl, ap, ◌∙◌, arith}
 use Rattle.std.proofs.lemmas.Bool.{not-true}
-use Rattle.points.specs.Tests.{both}
 use Rattle.points.proofs.Finite.{both_left, both_right, true_from}
 use Rattle.rules.specs.declared.row.Row.{Row}
 use Rattle.rules.specs.Steps.{Rules, Position, step, opening, finished, advance, taken}
@@ -11,7 +10,7 @@ module _ {C : Type 0} (r : Rules C) (n : ℕ) (rows : List Row) where
   -- From s the search is not finished before k steps, and then it is. The checker computes this.
   abbrev pub lasts : ℕ → Position → Bool
   lasts zero s = finished r n s
-  lasts (suc k) s = both (not (finished r n s)) (lasts k (step r n rows s))
+  lasts (suc k) s = not (finished r n s) && lasts k (step r n rows s)
 
   on : (k : ℕ) (s : Position) → T (lasts (suc k) s) → finished r n s ≡ false
   on k s h = not-true (finished r n s) (true_from (not (finished r n s)) (both_left (not (finished r n s)) (lasts k (step r n rows s)) h))
