@@ -51,16 +51,6 @@ loop-length-preserved g c =
       stands = below_more _ _ known.stands (c.is_refuted.ensures ∙ c.if-is_refuted.false);
     }
 
-pub returns-else-is_refuted-clause-is : goal.returns-else-is_refuted-clause-is
-returns-else-is_refuted-clause-is g c =
-    let sheet = c.args.self.now.sheet.now in
-    let r = rules_of sheet g.K.Kind.fit g.T.Joins.joining g.T.Tally.order in
-    let known = c.loop-length.invariant in
-    let e : c.loop-length.length ≡ pairs c.args.self.now.sheet.now.items = omega (arith, c.loop-length.auto, c.loop-length-test.true, c.requires) in
-    let up : pairs c.args.self.now.sheet.now.items + 1 ≡ 0 + (pairs c.args.self.now.sheet.now.items + 1) = omega arith in
-    up ∙ sym (first_past (refuted r sheet.items (rows_of sheet) c.args.best c.args.cursor.now) (pairs sheet.items + 1) 0
-    (λ z lo l. below_more _ _ known.stands (c.is_refuted.ensures ∙ c.if-is_refuted.false) z (omega (arith, l, e))))
-
 pub returns : goal.returns
 returns g c =
     let sheet = c.args.self.now.sheet.now in
