@@ -174,9 +174,6 @@ impl<'a, T: Tally> Tables<'a, T> {
         ensures known { Known (rules_of self.now.sheet.now K.Kind.fit T.Joins.joining T.Tally.order) self.now.sheet.now.items (rows_of self.now.sheet.now) best cursor.now (unwrap_or result (pairs_of self.now.sheet.now.items + 1)) spent.new }
     {
         for length in from..cursor.len() + 1 {
-            if (length - from) % 2 == 1 {
-                continue;
-            }
             let cost = self.prefix_cost(cursor, spent, length);
             spent[length] = cost;
             if self.is_refuted::<K>(cursor, length, cost, best) {
