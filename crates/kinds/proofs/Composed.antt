@@ -14,12 +14,9 @@ use Rattle.std.proofs.lemmas.List.FromFn.{get_or-range_with_len, length-range_wi
 use Rattle.std.proofs.lemmas.Bool.{both_ways, cases_Bool, cases_lt, eqb-true, eq-eqb, or_cases, or_left, or_right}
 use Rattle.points.specs.Sets.{has}
 use Rattle.points.proofs.United.{has_none, has_single, has_union}
+use Rattle.points.proofs.Passing.{passing, passes, is_passing}
 use Rattle.kinds.specs.Meaning.{Meaning, Laws, Fits}
 use Rattle.kinds.specs.Composition.{Composition}
-
--- the codes below 64 that pass, in their order
-abbrev pub codes_that_fit : (ℕ → Bool) → List ℕ
-codes_that_fit f = filter f (range_with_len 0 64)
 
 -- the set has the numbers of the list that are below 64, and no others
 abbrev pub Collected : List ℕ → ℕ → Type 0
@@ -90,34 +87,9 @@ fits_below m laws c d e h =
     let few = laws.few_codes in
     omega arith
 
--- a number of the list that passes is one of those that pass
-Contains-filter : (p : ℕ → Bool) (xs : List ℕ) (x : ℕ) → Contains xs x → p x ≡ true → Contains (filter p xs) x
-Contains-filter p [] x i h = absurd (never i.0 i.1)
-Contains-filter p (y ∷ ys) x i h = elim (cases_Bool (p y)) [
-  | inl passes ↦ subst (λ (b : Bool). Contains (cond b (y ∷ filter p ys) (filter p ys)) x) (sym passes) (elim (Contains-append_cases (y ∷ []) ys x i) [
-    | inl first ↦ Contains-append_left (y ∷ []) (filter p ys) x first
-    | inr later ↦ Contains-append_right (y ∷ []) (filter p ys) x (Contains-filter p ys x later h)
-  ])
-  | inr fails ↦ subst (λ (b : Bool). Contains (cond b (y ∷ filter p ys) (filter p ys)) x) (sym fails) (elim (Contains-append_cases (y ∷ []) ys x i) [
-    | inl first ↦ elim (Contains-push_cases [] y x first) [
-      | inl nowhere ↦ absurd (never nowhere.0 nowhere.1)
-      | inr same ↦ absurd (both_ways (p y) fails (subst (λ (k : ℕ). p k ≡ true) (sym same) h))
-    ]
-    | inr later ↦ Contains-filter p ys x later h
-  ])
-]
-
 pub composed : {V : Type 0} (m : Meaning V) → Laws m → (fit : ℕ → ℕ → ℕ → Bool) → ((c d e : ℕ) → Decides (fit c d e) (Fits m c d e)) →
-    (c d set : ℕ) → Collected (codes_that_fit (fit c d)) set → Composition m c d set
+    (c d set : ℕ) → Collected (passing 64 (fit c d)) set → Composition m c d set
 composed m laws fit decides c d set all e = (
-  λ p. (decides c d e).0 (passes ((all e).0 p)),
-  λ h. let small = fits_below m laws c d e h in (all e).1 small (Contains-filter (fit c d) (range_with_len 0 64) e (in_range small) ((decides c d e).1 h)),
+  λ p. (decides c d e).0 (passes 64 (fit c d) e ((all e).0 p)),
+  λ h. let small = fits_below m laws c d e h in (all e).1 small (is_passing 64 (fit c d) e small ((decides c d e).1 h)),
 )
-  where
-    passes : Contains (codes_that_fit (fit c d)) e → fit c d e ≡ true
-    passes i = All-contains (λ (k : ℕ). fit c d k ≡ true) (codes_that_fit (fit c d)) e (filter_passes (fit c d) (range_with_len 0 64)) i
-
-    in_range : e < 64 → Contains (range_with_len 0 64) e
-    in_range l =
-        subst (Contains (range_with_len 0 64)) (get_or-range_with_len 0 64 e 0 l ∙ zero-add e)
-        (Contains-get_or (range_with_len 0 64) e 0 (subst (λ (k : ℕ). e < k) (sym (length-range_with_len 0 64)) l))

@@ -7,3 +7,4 @@ pub mod Marked
 pub mod Tabled
 pub mod Inserted
 pub mod United
+pub mod Passing

@@ -173,7 +173,7 @@ impl<'a, T: Tally> Tables<'a, T> {
         ensures within { IfSome result (λ q. q ≤ pairs_of self.now.sheet.now.items) }
         ensures known { Known (rules_of self.now.sheet.now K.Kind.fit T.Joins.joining T.Tally.order) self.now.sheet.now.items (rows_of self.now.sheet.now) best cursor.now (unwrap_or result (pairs_of self.now.sheet.now.items + 1)) spent.new }
     {
-        for length in from..cursor.len() + 1 {
+        for length in from..=cursor.len() {
             let cost = self.prefix_cost(cursor, spent, length);
             spent[length] = cost;
             if self.is_refuted::<K>(cursor, length, cost, best) {

@@ -14,6 +14,7 @@ use Rattle.std.proofs.lemmas.Bool.{both_ways, cases_Bool, cases_lt, eqb-true, eq
 use Rattle.points.specs.Sets.{has}
 use Rattle.points.proofs.United.{has_none, has_single, has_union}
 use Rattle.points.proofs.Tabled.{has_beyond}
+use Rattle.points.proofs.Passing.{passing, passes, is_passing, in_range}
 use Rattle.tables.specs.Relations.{Single, Union, UnionOf}
 
 never : (c : ℕ) → c < 0 → ⊥
@@ -81,47 +82,20 @@ member_below set c small p = elim (cases_lt c 64) [
 
 -- the members of a set of 64 bits, in the order of their codes
 abbrev pub members : ℕ → List ℕ
-members set = filter (has set) (range_with_len 0 64)
-
-Contains-filter : (p : ℕ → Bool) (xs : List ℕ) (x : ℕ) → Contains xs x → p x ≡ true → Contains (filter p xs) x
-Contains-filter p [] x i h = absurd (never i.0 i.1)
-Contains-filter p (y ∷ ys) x i h = elim (cases_Bool (p y)) [
-  | inl passes ↦ subst (λ (b : Bool). Contains (cond b (y ∷ filter p ys) (filter p ys)) x) (sym passes) (elim (Contains-append_cases (y ∷ []) ys x i) [
-    | inl first ↦ Contains-append_left (y ∷ []) (filter p ys) x first
-    | inr later ↦ Contains-append_right (y ∷ []) (filter p ys) x (Contains-filter p ys x later h)
-  ])
-  | inr fails ↦ subst (λ (b : Bool). Contains (cond b (y ∷ filter p ys) (filter p ys)) x) (sym fails) (elim (Contains-append_cases (y ∷ []) ys x i) [
-    | inl first ↦ elim (Contains-push_cases [] y x first) [
-      | inl nowhere ↦ absurd (never nowhere.0 nowhere.1)
-      | inr same ↦ absurd (both_ways (p y) fails (subst (λ (k : ℕ). p k ≡ true) (sym same) h))
-    ]
-    | inr later ↦ Contains-filter p ys x later h
-  ])
-]
-
-range_contains : (n c : ℕ) → c < n → Contains (range_with_len 0 n) c
-range_contains n c l =
-    subst (Contains (range_with_len 0 n)) (get_or-range_with_len 0 n c 0 l ∙ zero-add c)
-    (Contains-get_or (range_with_len 0 n) c 0 (subst (λ (k : ℕ). c < k) (sym (length-range_with_len 0 n)) l))
-
-is_member : (set c : ℕ) → Contains (members set) c → has set c ≡ true
-is_member set c i = All-contains (λ (k : ℕ). has set k ≡ true) (members set) c (filter_passes (has set) (range_with_len 0 64)) i
-
-member_is : (set c : ℕ) → set < 2 ^ 64 → has set c ≡ true → Contains (members set) c
-member_is set c small h = Contains-filter (has set) (range_with_len 0 64) c (range_contains 64 c (member_below set c small h)) h
+members set = passing 64 (has set)
 
 -- the union over the list of the members is that over the set
 pub over_members : (Gives : ℕ → ℕ → Type 0) (items set : ℕ) → items < 2 ^ 64 → UnionOf Gives (members items) set → Union items Gives set
 over_members Gives items set small over = (
-  λ e p. let (c, i, given, gives, h) = over.0 e p in (c, is_member items c i, given, gives, h),
-  λ c h. over.1 c (member_is items c small h),
+  λ e p. let (c, i, given, gives, h) = over.0 e p in (c, passes 64 (has items) c i, given, gives, h),
+  λ c h. over.1 c (is_passing 64 (has items) c (member_below items c small h) h),
 )
 
 -- the union of the sets of one code over the codes of a kind, which has at most 64
 pub over_codes : (codes set : ℕ) → codes ≤ 64 → UnionOf Single (range_with_len 0 codes) set → (e : ℕ) → Decides (has set e) (e < codes)
 over_codes codes set few over e = (
   λ p. let (c, i, given, one, h) = over.0 e p in subst (λ (k : ℕ). k < codes) (sym ((one e).0 h).0) (All-contains (λ k. k < codes) (range_with_len 0 codes) c all i),
-  λ l. let (given, one, within) = over.1 e (range_contains codes e l) in within e ((one e).1 (refl, omega (arith, l, few))),
+  λ l. let (given, one, within) = over.1 e (in_range codes e l) in within e ((one e).1 (refl, omega (arith, l, few))),
 )
   where
     all : All (λ k. k < codes) (range_with_len 0 codes)

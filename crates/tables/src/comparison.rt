@@ -145,7 +145,7 @@ fn hold_compositions<K: Kind + Notation>(
 ) -> anyhow::Result<u32> {
     let mut comparison = Comparison {
         met: left_out,
-        score: Score::default(),
+        ..Comparison::default()
     };
     for row in table.rows {
         let r = table.letters.read::<K>(row.letter)?;
@@ -159,7 +159,7 @@ fn hold_compositions<K: Kind + Notation>(
 fn hold_identity(rt: HostRuntime, table: Table, identity: u8) -> anyhow::Result<u32> {
     let mut comparison = Comparison {
         met: single(identity),
-        score: Score::default(),
+        ..Comparison::default()
     };
     let itself = table.letters.set::<Spells>(ALLEN_IDENTITY);
     comparison.hold_composition::<Spells>(rt, (identity, identity), itself)?;

@@ -70,7 +70,8 @@ impl AlgebraLaw {
 fn try_instance<K: Kind + Notation>(
     rt: HostRuntime,
     score: &mut Score,
-    (name, law): (&str, AlgebraLaw),
+    name: &str,
+    law: AlgebraLaw,
     (r, s, t): (u8, u8, u8),
 ) -> io::Result<()> {
     let holds = law.holds::<K>(r, s, t);
@@ -98,7 +99,7 @@ fn try_named<K: Kind + Notation>(
         for r in 0..K::count() {
             for s in 0..second {
                 for t in 0..third {
-                    try_instance::<K>(rt, &mut score, (name, *law), (r, s, t))?;
+                    try_instance::<K>(rt, &mut score, name, *law, (r, s, t))?;
                 }
             }
         }
@@ -131,8 +132,8 @@ mod tests {
     #[test]
     fn counts_failures(rt: HostRuntime) -> Result<(), Fail> {
         let mut score = Score::default();
-        let law = ("identity", AlgebraLaw::LeftIdentity);
-        try_instance::<Moments>(rt, &mut score, law, (3, 0, 0))?;
+        let law = AlgebraLaw::LeftIdentity;
+        try_instance::<Moments>(rt, &mut score, "identity", law, (3, 0, 0))?;
         assert_eq!(rt; (score.stand, score.lacking), (0, 1));
         Ok(())
     }

@@ -4,9 +4,6 @@ use lib.Bits.{and_mask}
 use Rattle.std.proofs.lemmas.Bool.{le-ltb}
 use Rattle.points.proofs.set.contains.Goals as goal
 
-pub returns-then-code-lt64 : goal.returns-then-code-lt64
-returns-then-code-lt64 c = ap (λ (n : ℕ). eqb n 1) (and_mask (c.args.set / 2 ^ c.args.code) 1)
-
 -- a set has no bit past its 64
 pub returns-else-code-lt64 : goal.returns-else-code-lt64
 returns-else-code-lt64 c =

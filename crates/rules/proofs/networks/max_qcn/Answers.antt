@@ -1,7 +1,9 @@
 -- MAX-QCN, from the counts of constraints.
-use Rattle.std.proofs.Common.{refl}
 use Rattle.rules.proofs.Constraints.{costs_count, max_qcn}
 use Rattle.rules.proofs.networks.max_qcn.Goals as goal
 
-pub returns : goal.returns
-returns g c = record { weight = refl; costs = costs_count; solves = max_qcn g.K.Kind.meaning g.K.Kind.fit }
+pub returns-clause-costs : goal.returns-clause-costs
+returns-clause-costs g c = costs_count
+
+pub returns-clause-solves : goal.returns-clause-solves
+returns-clause-solves g c = max_qcn g.K.Kind.meaning g.K.Kind.fit

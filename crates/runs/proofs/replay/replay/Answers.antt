@@ -5,19 +5,11 @@ use Rattle.runs.proofs.Carried.{reaches_more, reached_end}
 use Rattle.runs.proofs.Lawful.{run_law}
 use Rattle.runs.proofs.replay.replay.Goals as goal
 
-pub loop-call-init : goal.loop-call-init
-loop-call-init g c = record { views = refl; answered = rw c.new-answers.ensures.items tt }
-
 pub loop-call-preserved : goal.loop-call-preserved
 loop-call-preserved g c =
     reaches_more g.K.Kind.meaning g.K.Kind.values (rules g.K.Kind.meaning g.K.Kind.fit g.T.Joins.joining g.T.Tally.order) (draft_view c.args.draft)
     c.args.script.now c.loop-call.call-index _ (vec_items c.loop-call.answers) (vec_items c.push.new.self) c.in_ok-after.answer c.loop-call.state c.in_ok-after.after
     c.loop-call-test.true c.loop-call.invariant c.in_ok-after.ensures c.in_ok-push.ensures.items
-
-pub returns-clause-answers : goal.returns-clause-answers
-returns-clause-answers g c =
-    reached_end g.K.Kind.meaning g.K.Kind.values (rules g.K.Kind.meaning g.K.Kind.fit g.T.Joins.joining g.T.Tally.order) (draft_view c.args.draft)
-    c.args.script.now c.loop-call.call-index c.loop-call.answers.items c.loop-call.state c.loop-call-test.false c.loop-call.invariant
 
 pub returns-clause-law : goal.returns-clause-law
 returns-clause-law g c =

@@ -7,33 +7,13 @@ use Rattle.rules.proofs.Cursors.{zeros, below_front, past_none, turn_rise, turn_
 use Rattle.search.proofs.cursor.rise.Goals as goal
 use Rattle.search.proofs.cursor.rise.Goals.{else-i-shared-via-then-i-shared+else-cursor-i, else-i-shared-via-else-i-shared}
 
-pub loop-i-init : goal.loop-i-init
-loop-i-init c =
-    let top : c.max-i.result ≡ max c.args.shared c.args.filled = c.max-i.ensures in (
-      omega (arith, top, c.requires.within),
-      blank_front c.max-i.result c.args.cursor.now (λ k l. c.requires.blank k (omega (arith, top, l))),
-      λ h. (let e : c.args.shared ≡ c.max-i.result = omega (arith, h, top) in
-          ap (λ (z : ℕ). past c.args.codes (length c.args.cursor.now) z (index c.args.codes c.args.cursor.now)) e),
-    )
+pub returns-then-cursor-i-clause-moved : goal.returns-then-cursor-i-clause-moved
+returns-then-cursor-i-clause-moved c = (turn_rise c.args.codes c.args.shared c.args.cursor.now c.requires.low c.requires.within.0 c.loop-i.i c.loop-i.cursor
+    c.loop-i-test.true c.loop-i.invariant.0 c.loop-i.invariant.1 (c.loop-i.invariant.2 (omega (arith, c.if-i-shared.true))) c.if-cursor-i.true).0
 
-pub returns-then-cursor-i : goal.returns-then-cursor-i
-returns-then-cursor-i c =
-    let h = turn_rise c.args.codes c.args.shared c.args.cursor.now c.requires.low c.requires.within.0 c.loop-i.i c.loop-i.cursor
-    c.loop-i-test.true c.loop-i.invariant.0 c.loop-i.invariant.1 (c.loop-i.invariant.2 (omega (arith, c.if-i-shared.true))) c.if-cursor-i.true in
-    let s = rise_shares c.args.cursor.now c.loop-i.cursor (zeros (length c.args.cursor.now - c.loop-i.i)) c.loop-i.i
-    (get_or c.loop-i.cursor (c.loop-i.i - 1) 0 + 1) c.loop-i-test.true c.loop-i.invariant.0 c.loop-i.invariant.1 in
-    let z : c.loop-i.i - 1 ≡ (c.loop-i.i - 1) + 1 - 1 = omega arith in
-    let up : c.loop-i.i ≡ (c.loop-i.i - 1) + 1 = omega (arith, c.loop-i-test.true) in
-    record {
-      moved = h.0;
-      ended = tt;
-      low = h.1;
-      within = (omega arith, omega (arith, c.if-i-shared.true));
-      shares = subst (λ (w : ℕ). take w (set c.loop-i.cursor (c.loop-i.i - 1) (get_or c.loop-i.cursor (c.loop-i.i - 1) 0 + 1)) ≡ take w c.args.cursor.now) z s;
-      blank = subst (λ (w : ℕ). Blank w (set c.loop-i.cursor (c.loop-i.i - 1) (get_or c.loop-i.cursor (c.loop-i.i - 1) 0 + 1))) up
-          (blank_set c.loop-i.i (get_or c.loop-i.cursor (c.loop-i.i - 1) 0 + 1) c.loop-i.cursor c.loop-i-test.true
-          (blank_after c.loop-i.i (length c.args.cursor.now - c.loop-i.i) c.args.cursor.now c.loop-i.cursor c.loop-i.invariant.0 c.loop-i.invariant.1));
-    }
+pub returns-then-cursor-i-clause-low : goal.returns-then-cursor-i-clause-low
+returns-then-cursor-i-clause-low c = (turn_rise c.args.codes c.args.shared c.args.cursor.now c.requires.low c.requires.within.0 c.loop-i.i c.loop-i.cursor
+    c.loop-i-test.true c.loop-i.invariant.0 c.loop-i.invariant.1 (c.loop-i.invariant.2 (omega (arith, c.if-i-shared.true))) c.if-cursor-i.true).1
 
 pub loop-i-preserved : goal.loop-i-preserved
 loop-i-preserved c =
@@ -48,18 +28,14 @@ loop-i-preserved c =
     ] in
     (omega (arith, c.loop-i.invariant.0), zeroed, carry top)
 
-pub returns : goal.returns
-returns c =
+pub returns-clause-ended : goal.returns-clause-ended
+returns-clause-ended c =
     let e : c.loop-i.i ≡ 0 = omega (arith, c.loop-i-test.false) in
-    let done = c.loop-i.invariant.2 (omega (arith, e)) in
-    record {
-      moved = tt;
-      ended = done
-          ∙ ap (λ (z : ℕ). past c.args.codes (length c.args.cursor.now) z (index c.args.codes c.args.cursor.now)) e
-          ∙ past_none c.args.codes c.args.cursor.now c.requires.low;
-      low = subst (Below c.args.codes) (sym c.loop-i.invariant.1)
-          (below_front c.args.codes c.loop-i.i (length c.args.cursor.now - c.loop-i.i) c.args.cursor.now (omega (arith, c.requires.coded)) c.requires.low);
-      within = tt;
-      shares = tt;
-      blank = tt;
-    }
+    c.loop-i.invariant.2 (omega (arith, e))
+    ∙ ap (λ (z : ℕ). past c.args.codes (length c.args.cursor.now) z (index c.args.codes c.args.cursor.now)) e
+    ∙ past_none c.args.codes c.args.cursor.now c.requires.low
+
+pub returns-clause-low : goal.returns-clause-low
+returns-clause-low c =
+    subst (Below c.args.codes) (sym c.loop-i.invariant.1)
+    (below_front c.args.codes c.loop-i.i (length c.args.cursor.now - c.loop-i.i) c.args.cursor.now (omega (arith, c.requires.coded)) c.requires.low)

@@ -20,9 +20,3 @@ loop-claim-preserved g c =
     let left = c.in-Some.ensures.steps in
     let so_far = c.loop-claim.invariant in
     cc (c.penalty.ensures, c.join-cost.ensures)
-
-pub returns : goal.returns
-returns g c =
-    let none = nil_from_length c.loop-claim.claim-iterator.iter.rest.now c.in-None.ensures.steps.0 in
-    let so_far = c.loop-claim.invariant in
-    cc (ap (λ (xs : List Claim). onto g.T.Joins.joining xs c.loop-claim.cost) none)

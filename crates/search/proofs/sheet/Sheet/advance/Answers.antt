@@ -15,28 +15,6 @@ use Rattle.search.proofs.Blanks.{blank_end}
 use Rattle.search.proofs.Closed.{below_from, written_front, written_holds}
 use Rattle.search.proofs.sheet.Sheet.advance.Goals as goal
 
-pub loop-taken-init : goal.loop-taken-init
-loop-taken-init g c =
-    let s = c.args.self.now in
-    let p : ℕ = pairs c.args.self.now.items in
-    let r = rules_of s g.K.Kind.fit g.T.Joins.joining g.T.Tally.order in
-    let few = c.args.self.now.fits in
-    let marked : Holds s.codes p c.in-Some.cursor = s.marked c.in-Some.cursor c.in-Some.is in
-    let long : length (take p c.in-Some.cursor) ≡ pairs c.args.self.now.items = length-take-le p c.in-Some.cursor (omega (arith, few, marked.long)) in
-    record {
-      under_way = subst (λ (m : ℕ). UnderWay r s.items (rows_of s) c.args.steps 0 (position_of s) (position (take p s.incumbent) m)) (ap (number_at s.codes p) c.in-Some.is)
-          (under_way_none r s.items (rows_of s) c.args.steps (position_of s));
-      held = s.held;
-      marked = marked;
-      keeps = record {
-        best = c.cost.ensures;
-        stands = omega arith;
-        filled = omega (arith, c.pairs-count.ensures);
-        known = record { long = c.requires.1.1; costs = λ z l. absurd (omega (arith, l)); stands = λ z l. absurd (omega (arith, l)) };
-        blank = blank_end c.pairs-count.result (take p c.in-Some.cursor) (omega (arith, c.pairs-count.ensures, long));
-      };
-    }
-
 pub step-requires-clause-below : goal.step-requires-clause-below
 step-requires-clause-below g c =
     let s = c.args.self.now in
@@ -44,14 +22,6 @@ step-requires-clause-below g c =
     let same : c.pairs-count.result - 0 ≡ pairs c.args.self.now.items = omega (arith, c.pairs-count.ensures) in
     subst (λ (k : ℕ). Below s.codes (take k c.loop-taken.incumbent) × Below s.codes (take k c.loop-taken.cursor)) (sym same)
     (below_from s.codes (take (pairs s.items) c.loop-taken.incumbent) inv.held.below, below_from s.codes (take (pairs s.items) c.loop-taken.cursor) inv.marked.below)
-
-pub step-requires-clause-keeps : goal.step-requires-clause-keeps
-step-requires-clause-keeps g c =
-    let s = c.args.self.now in
-    let r = rules_of s g.K.Kind.fit g.T.Joins.joining g.T.Tally.order in
-    let same : c.pairs-count.result - 0 ≡ pairs c.args.self.now.items = omega (arith, c.pairs-count.ensures) in
-    subst (λ (k : ℕ). Keeps r s.items (rows_of s) (take k c.loop-taken.incumbent) (take k c.loop-taken.cursor) c.loop-taken.kept c.loop-taken.spent) (sym same)
-    c.loop-taken.invariant.keeps
 
 pub invariant_of-self : goal.invariant_of-self
 invariant_of-self g c =
@@ -141,28 +111,3 @@ loop-taken-preserved g c =
       marked = written_holds b p k same c.loop-taken.cursor next inv.marked e.below.1 long' few;
       keeps = both (λ a z. Keeps r s.items (rows_of s) a z c.in-Some-step.next c.step.new.spent) e.keeps;
     }
-
-pub invariant_of-self-2 : goal.invariant_of-self-2
-invariant_of-self-2 g c =
-    let s = c.args.self.now in
-    let inv = c.loop-taken.invariant in
-    record {
-      some = s.some;
-      few = s.few;
-      fits = s.fits;
-      room = s.room;
-      sound = s.sound;
-      coded = s.coded;
-      narrow = s.narrow;
-      held = inv.held;
-      marked = λ a e. subst (Holds s.codes (pairs s.items)) (same_Some _ a e) inv.marked;
-    }
-
-pub returns : goal.returns
-returns g c =
-    let s = c.args.self.now in
-    let r = rules_of s g.K.Kind.fit g.T.Joins.joining g.T.Tally.order in
-    let here : Position = position (take (pairs s.items) c.loop-taken.incumbent) (index s.codes (take (pairs s.items) c.loop-taken.cursor)) in
-    let all = under_way_all r s.items (rows_of s) c.args.steps c.loop-taken.taken (position_of s) here c.loop-taken.invariant.under_way c.loop-taken-test.false in
-    let last : c.args.steps ≡ c.loop-taken.taken = omega (arith, c.loop-taken.auto, c.loop-taken-test.false) in
-    record { advanced = all.0; taken = last ∙ all.1; parts = (refl, refl, refl) }

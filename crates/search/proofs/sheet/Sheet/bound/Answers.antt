@@ -15,10 +15,3 @@ loop-spot-preserved g c =
     (bounds_push g.T.Joins.joining g.met.T.Joins.monoid g.T.Tally.order self.items (rows_of self)
     (proper_is self.items (rows_of self) self.sound) self.codes c.loop-spot.spot-counter)
     c.join-sum.ensures
-
-pub returns : goal.returns
-returns g c =
-    let self = c.args.self.now in
-    let last : c.loop-spot.spot-counter ≡ c.pairs-spot-end.result = omega (arith, c.loop-spot.auto, c.loop-spot-test.false) in
-    c.loop-spot.invariant
-    ∙ ap (span (of_rows g.T.Joins.joining) (pair_bound g.T.Joins.joining g.T.Tally.order self.codes (rows_of self)) 0) (last ∙ c.pairs-spot-end.ensures)

@@ -8,13 +8,10 @@ use Rattle.rules.specs.Steps.{position, opening}
 use Rattle.search.proofs.Closed.{blanks, pairs_few, closes_parts, zeros_hold}
 use Rattle.search.proofs.sheet.Sheet.closing.Goals as goal
 
-pub second_scenario-cursor-requires : goal.second_scenario-cursor-requires
-second_scenario-cursor-requires c =
+pub second_scenario-cursor-requires-clause-few : goal.second_scenario-cursor-requires-clause-few
+second_scenario-cursor-requires-clause-few c =
     let parts = closes_parts c.args.items c.args.rows c.args.codes (sym c.can_close.ensures ∙ c.if-not-can_close.false) in
-    record {
-      few = omega (arith, pairs_few c.args.items parts.1, c.pairs.ensures);
-      coded = parts.2;
-    }
+    omega (arith, pairs_few c.args.items parts.1, c.pairs.ensures)
 
 pub invariant_of-result : goal.invariant_of-result
 invariant_of-result c =

@@ -10,20 +10,6 @@ use Rattle.search.proofs.Prefixes.{part_long}
 use Rattle.search.proofs.Loops.{bounds_first, turn_joins, put_here, put_later}
 use Rattle.search.proofs.sheet.Sheet.fill.Goals as goal
 
-pub loop-spot-init : goal.loop-spot-init
-loop-spot-init g c =
-    let j = g.T.Joins.joining in
-    let self = c.args.self.now in
-    let f : ℕ → g.row.T-Cost.Denot = pair_bound g.T.Joins.joining g.T.Tally.order c.args.self.now.codes (rows_of c.args.self.now) in
-    let count : ℕ = c.pairs-count.result in
-    let owed = c.args.owed.now in
-    let none : 0 ≡ c.pairs-count.result - c.pairs-count.result = omega arith in (
-      λ s z lo hi l. absurd (omega (arith, lo, hi)),
-      λ q lo hi. (let same : c.pairs-count.result ≡ q = omega (arith, lo, hi) in
-          subst (λ (z : ℕ). get_or (set owed count c.empty.result) z j.empty ≡ owed_from j g.T.Tally.order self.codes (rows_of self) count z) same
-          (get_or-set_same owed count c.empty.result j.empty (omega (arith, c.args.self.now.fits, c.pairs-count.ensures, c.requires.1)) ∙ c.empty.ensures ∙ ap (span (of_rows j) f count) none)),
-    )
-
 pub loop-spot-preserved : goal.loop-spot-preserved
 loop-spot-preserved g c =
     let j = g.T.Joins.joining in
@@ -68,13 +54,3 @@ loop-spot-preserved g c =
             get_or-set_other owed here q c.join.result j.empty ne ∙ c.loop-spot.invariant.1 q (omega (arith, lt, up)) hi)
       ],
     )
-
-pub returns-clause-priced : goal.returns-clause-priced
-returns-clause-priced g c s z lo hi l =
-    c.loop-spot.invariant.0 s z (omega (arith, c.loop-spot-test.false)) (omega (arith, hi, c.pairs-count.ensures)) l
-
-pub returns-clause-bounded : goal.returns-clause-bounded
-returns-clause-bounded g c =
-    let self = c.args.self.now in
-    subst (λ (p : ℕ). Owed g.T.Joins.joining g.T.Tally.order self.codes (rows_of self) 0 p c.loop-spot.owed) c.pairs-count.ensures
-    (λ q lo hi. c.loop-spot.invariant.1 q (omega (arith, c.loop-spot-test.false)) hi)

@@ -31,8 +31,3 @@ loop-row-preserved g c p is =
           ∙ sym (more ∙ cond-true (p (get_or rows i no_row)) with_it before (sym test ∙ w.if-test.true))
       | else-test w ↦ w.sum-is ∙ so_far ∙ sym (more ∙ cond-false (p (get_or rows i no_row)) with_it before (sym test ∙ w.if-test.false))
     ]
-
-pub returns : goal.returns
-returns g c p is =
-    c.loop-row.invariant p is
-    ∙ ap (λ (z : List Row). joined (of_rows g.J.Joins.joining) (filter p z)) (take_all c.loop-row.row-index c.rows-rows.result.now c.loop-row-test.false ∙ c.rows-rows.ensures)

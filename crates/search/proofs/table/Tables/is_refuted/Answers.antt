@@ -19,17 +19,6 @@ module _ {C : Type 0} (r : Rules C) (n : ℕ) (rows : List Row) (best : C) (a : 
       refuted_by r n rows best a m cost (get_or owed m read) bound u over is_cost
       (get_or_default owed m read r.joining.empty (omega (arith, within, few, long)) ∙ bounded m (omega arith) within) is_bound is_unfit is_over
 
-pub returns-then-at_most : goal.returns-then-at_most
-returns-then-at_most g c =
-    let tables = c.args.self.now in
-    let sheet = c.args.self.now.sheet.now in
-    let r = rules_of sheet g.K.Kind.fit g.T.Joins.joining g.T.Tally.order in
-    let u : Bool = unfit r sheet.items c.args.length c.args.cursor.now in
-    by_parts r sheet.items (rows_of sheet) c.args.best c.args.cursor.now tables.owed.now tables.owed_long tables.bounded
-    c.args.length c.requires.within (sheet.fits) c.args.cost c.index-self-length.result c.join-bound.result u c.at_most.result
-    c.requires.cost c.join-bound.ensures refl c.at_most.ensures
-    ∙ ap (λ (v : Bool). u || v) c.if-at_most.true ∙ or-true u
-
 pub returns-then-length-eq0 : goal.returns-then-length-eq0
 returns-then-length-eq0 g c =
     let tables = c.args.self.now in
@@ -40,17 +29,3 @@ returns-then-length-eq0 g c =
     c.requires.cost c.join-bound.ensures
     (ap (λ (z : ℕ). unfit r sheet.items z c.args.cursor.now) c.if-length-eq0.true ∙ unfit_zero r sheet.items c.args.cursor.now) c.at_most.ensures
     ∙ c.if-at_most.false
-
-pub returns : goal.returns
-returns g c =
-    let tables = c.args.self.now in
-    let sheet = c.args.self.now.sheet.now in
-    let a = c.args.cursor.now in
-    let r = rules_of sheet g.K.Kind.fit g.T.Joins.joining g.T.Tally.order in
-    let up : (c.args.length - 1) + 1 ≡ c.args.length = omega (arith, c.if-length-eq0.false) in
-    let before = stands_fits r sheet.items (rows_of sheet) c.args.best a (c.args.length - 1) (c.requires.stands (c.args.length - 1) (omega (arith, c.if-length-eq0.false))) in
-    let closed = subst (λ (z : ℕ). unfit r sheet.items z a ≡ c.closes_misfit.result) up (c.closes_misfit.ensures before) in
-    by_parts r sheet.items (rows_of sheet) c.args.best a tables.owed.now tables.owed_long tables.bounded
-    c.args.length c.requires.within (sheet.fits) c.args.cost c.index-self-length.result c.join-bound.result c.closes_misfit.result c.at_most.result
-    c.requires.cost c.join-bound.ensures closed c.at_most.ensures
-    ∙ ap (λ (v : Bool). c.closes_misfit.result || v) c.if-at_most.false ∙ or-false c.closes_misfit.result

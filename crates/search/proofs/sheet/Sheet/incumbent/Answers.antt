@@ -1,1 +1,0 @@
--- The pairs are within the array.
