@@ -1,7 +1,7 @@
 -- The set of the codes that fit, gathered one by one.
-use Rattle.std.proofs.Common.{◌≡◌, ℕ, ◌+◌, ◌-◌, ◌*◌, ◌%◌, ◌^◌, ◌<◌, ◌≤◌, Bool, true, Decides, Option, cond, List, [], ◌∷◌, ◌++◌, sym, ap, ◌∙◌, subst, inl, inr, arith, pow-add, zero-add}
+use Rattle.std.proofs.Common.{◌≡◌, ℕ, ◌+◌, ◌-◌, ◌*◌, ◌%◌, ◌^◌, ◌<◌, ◌≤◌, Bool, true, Decides, Option, List, [], ◌∷◌, ◌++◌, sym, ap, ◌∙◌, subst, inl, inr, arith, pow-add}
 use Rattle.std.proofs.Math.Nat.{mul-mod_left}
-use Rattle.std.specs.List.{Contains, FoldsTo, filter, range_with_len}
+use Rattle.std.specs.List.{Contains, FoldsTo}
 use Rattle.std.specs.Iterator.{Drains}
 use Rattle.std.specs.Fn.{Called}
 use denote.Param.Members.{Mut}
@@ -9,9 +9,8 @@ use lib.Bits.{bit_or}
 use Rattle.std.proofs.lemmas.Nat.{one_shl}
 use Rattle.std.proofs.lemmas.Iterator.{YieldsList}
 use Rattle.std.proofs.lemmas.Fn.{fold_over}
-use Rattle.std.proofs.lemmas.List.Elements.{All-contains, Contains-append_cases, Contains-append_left, Contains-append_right, Contains-get_or, Contains-push, Contains-push_cases, filter_passes}
-use Rattle.std.proofs.lemmas.List.FromFn.{get_or-range_with_len, length-range_with_len}
-use Rattle.std.proofs.lemmas.Bool.{both_ways, cases_Bool, cases_lt, eqb-true, eq-eqb, or_cases, or_left, or_right}
+use Rattle.std.proofs.lemmas.List.Elements.{Contains-append_left, Contains-push, Contains-push_cases}
+use Rattle.std.proofs.lemmas.Bool.{both_ways, cases_lt, eqb-true, eq-eqb, or_cases, or_left, or_right}
 use Rattle.points.specs.Sets.{has}
 use Rattle.points.proofs.United.{has_none, has_single, has_union}
 use Rattle.points.proofs.Passing.{passing, passes, is_passing}

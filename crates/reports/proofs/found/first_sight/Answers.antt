@@ -1,7 +1,7 @@
-use Rattle.std.proofs.Common.{sym, ap, ◌∙◌, refl}
+use Rattle.std.proofs.Common.{sym, ap, ◌∙◌}
 use Rattle.std.proofs.lemmas.List.{drop_all}
 use Rattle.reports.specs.Found.{first_sight}
-use Rattle.reports.proofs.Remaining.{first_there, first_later}
+use Rattle.reports.proofs.Remaining.{first_there}
 use Rattle.reports.proofs.Sights.{stands_as}
 use Rattle.reports.proofs.found.first_sight.Goals as goal
 

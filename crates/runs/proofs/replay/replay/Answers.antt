@@ -1,4 +1,4 @@
-use Rattle.std.proofs.Common.{vec_items, refl}
+use Rattle.std.proofs.Common.{vec_items}
 use Rattle.rules.specs.Soundness.{rules}
 use Rattle.runs.specs.States.{draft_view}
 use Rattle.runs.proofs.Carried.{reaches_more, reached_end}

@@ -1,9 +1,7 @@
 -- A turn sets a code to 0 and carries, or raises it.
-use Rattle.std.proofs.Common.{◌≡◌, ℕ, ◌+◌, ◌-◌, ◌<◌, ◌≤◌, length, max, get_or, take, set, sym, ap, ◌∙◌, subst, arith}
+use Rattle.std.proofs.Common.{◌≡◌, ℕ, ◌+◌, ◌-◌, ◌<◌, ◌≤◌, length, get_or, sym, ap, ◌∙◌, subst, arith}
 use Rattle.rules.specs.Orders.{Below, index, past}
-use Rattle.search.specs.Sheets.{Blank}
-use Rattle.search.proofs.Blanks.{blank_front, blank_after, blank_set}
-use Rattle.rules.proofs.Cursors.{zeros, below_front, past_none, turn_rise, turn_zero, turn_carry, rise_shares}
+use Rattle.rules.proofs.Cursors.{below_front, past_none, turn_rise, turn_zero, turn_carry}
 use Rattle.search.proofs.cursor.rise.Goals as goal
 use Rattle.search.proofs.cursor.rise.Goals.{else-i-shared-via-then-i-shared+else-cursor-i, else-i-shared-via-else-i-shared}
 

@@ -1,6 +1,6 @@
 -- Where there is a second scenario, zeros and a 1 are its codes; else all scenarios are one.
 use Rattle.std.proofs.Common.{subst, arith}
-use Rattle.std.proofs.lemmas.Option.{none-some, same_Some}
+use Rattle.std.proofs.lemmas.Option.{same_Some}
 use Rattle.search.specs.Sheets.{Holds}
 use Rattle.search.proofs.Closed.{second_holds, second_number, one_scenario}
 use Rattle.search.proofs.parts.second_scenario.Goals as goal

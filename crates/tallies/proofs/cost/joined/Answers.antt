@@ -1,8 +1,5 @@
 -- The loop joins the claims from the last on: all are left at first, and one fewer with each turn.
-use Rattle.std.proofs.Common.{List, ap}
-use Rattle.std.proofs.lemmas.List.{nil_from_length}
-use Rattle.tallies.specs.declared.claim.Claim.{Claim}
-use Rattle.tallies.proofs.Joins.{onto, onto_empty, onto_last}
+use Rattle.tallies.proofs.Joins.{onto_empty, onto_last}
 use Rattle.tallies.proofs.cost.joined.Goals as goal
 
 pub loop-claim-init : goal.loop-claim-init

@@ -1,17 +1,16 @@
 -- One more step with each turn, by the tables of the sheet.
 use Rattle.std.proofs.Common.{◌≡◌, ℕ, ◌+◌, ◌-◌, ◌^◌, ◌<◌, ◌≤◌, List, ◌++◌, length, take, drop, sym, refl, ap, ◌∙◌, subst, arith}
-use Rattle.std.proofs.lemmas.Option.{none-some, same_Some}
+use Rattle.std.proofs.lemmas.Option.{none-some}
 use Rattle.std.proofs.lemmas.List.{length-take-le}
 use Rattle.points.specs.Scenarios.{pairs}
 use Rattle.rules.specs.declared.row.Row.{Row}
 use Rattle.rules.specs.Orders.{Below, index}
 use Rattle.rules.specs.Steps.{Rules, Position, position, step, advance, taken as taken_of}
 use Rattle.rules.proofs.Orders.{index_lt}
-use Rattle.rules.proofs.Advances.{UnderWay, under_way_none, under_way_more, under_way_all, under_way_done}
+use Rattle.rules.proofs.Advances.{UnderWay, under_way_more, under_way_done}
 use Rattle.search.specs.Closed.{rows_of, position_of, rules_of}
-use Rattle.search.specs.Sheets.{Holds, number_at}
+use Rattle.search.specs.Sheets.{Holds}
 use Rattle.search.specs.Tables.{Keeps}
-use Rattle.search.proofs.Blanks.{blank_end}
 use Rattle.search.proofs.Closed.{below_from, written_front, written_holds}
 use Rattle.search.proofs.sheet.Sheet.advance.Goals as goal
 

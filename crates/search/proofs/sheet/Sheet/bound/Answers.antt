@@ -1,7 +1,5 @@
 -- One more pair with each turn.
-use Rattle.std.proofs.Common.{◌≡◌, ap, ◌∙◌, arith, rules}
-use Rattle.tallies.specs.Groups.{span}
-use Rattle.rules.specs.Costs.{of_rows, pair_bound}
+use Rattle.std.proofs.Common.{rules}
 use Rattle.search.specs.Closed.{rows_of}
 use Rattle.rules.proofs.Bounds.{bounds_push}
 use Rattle.search.proofs.Loops.{turn_joins}

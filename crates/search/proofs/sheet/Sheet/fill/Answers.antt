@@ -5,7 +5,7 @@ use borrow.Rule.Slice.PartMut.{put_mid}
 use Rattle.tallies.specs.Groups.{span}
 use Rattle.rules.specs.Costs.{of_rows, pair_cost, pair_bound}
 use Rattle.search.specs.Closed.{rows_of}
-use Rattle.search.specs.Tables.{owed_from, Owed}
+use Rattle.search.specs.Tables.{owed_from}
 use Rattle.search.proofs.Prefixes.{part_long}
 use Rattle.search.proofs.Loops.{bounds_first, turn_joins, put_here, put_later}
 use Rattle.search.proofs.sheet.Sheet.fill.Goals as goal

@@ -1,7 +1,6 @@
 -- One more row with each turn, joined if it passes.
 use Rattle.std.proofs.Common.{◌≡◌, ◌≤◌, refl, filter, List, length, get_or, take, sym, ap, ◌∙◌, subst}
 use Rattle.std.proofs.lemmas.Bool.{cond-true, cond-false}
-use Rattle.std.proofs.lemmas.List.{take_all}
 use Rattle.tallies.specs.Joins.{joined}
 use Rattle.tallies.proofs.Along.{monoid_along}
 use Rattle.rules.specs.declared.row.Row.{Row}

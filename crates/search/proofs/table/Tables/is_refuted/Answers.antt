@@ -1,13 +1,12 @@
 -- By its cost and the bounds of the other pairs, or by the triples that its last pair closes.
-use Rattle.std.proofs.Common.{◌≡◌, ℕ, ◌+◌, ◌-◌, ◌≤◌, Bool, false, ◌||◌, List, length, get_or, refl, ap, ◌∙◌, subst, arith}
-use Rattle.std.proofs.Math.Bool.{or-true, or-false}
+use Rattle.std.proofs.Common.{◌≡◌, ℕ, ◌≤◌, Bool, false, ◌||◌, List, length, get_or, ap, ◌∙◌, arith}
 use Rattle.std.proofs.lemmas.List.{get_or_default}
 use Rattle.search.specs.Closed.{rows_of, rules_of}
 use Rattle.search.specs.Tables.{spent_on, Owed}
 use Rattle.rules.specs.declared.row.Row.{Row}
 use Rattle.rules.specs.Steps.{Rules, refuted, unfit}
 use Rattle.points.specs.Scenarios.{pairs}
-use Rattle.search.proofs.Prefixes.{unfit_zero, refuted_by, stands_fits}
+use Rattle.search.proofs.Prefixes.{unfit_zero, refuted_by}
 use Rattle.search.proofs.table.Tables.is_refuted.Goals as goal
 
 -- What is owed by the table, and the prefix by its cost and by whether its triples fit.

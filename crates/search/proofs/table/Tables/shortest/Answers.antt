@@ -1,11 +1,8 @@
 -- One more prefix with each turn.
-use Rattle.std.proofs.Common.{◌≡◌, ℕ, ◌+◌, ◌≤◌, sym, ◌∙◌, subst, arith, below_more}
-use Rattle.std.proofs.lemmas.List.{length-set}
+use Rattle.std.proofs.Common.{◌≡◌, ◌+◌, sym, ◌∙◌, arith, below_more}
 use Rattle.points.specs.Scenarios.{pairs}
 use Rattle.search.specs.Closed.{rows_of, rules_of}
-use Rattle.search.specs.Tables.{Known}
 use Rattle.rules.specs.Steps.{refuted}
-use Rattle.search.proofs.Prefixes.{spent_more}
 use Rattle.rules.proofs.Advances.{first_at, first_past}
 use Rattle.search.proofs.table.Tables.shortest.Goals as goal
 
