@@ -87,17 +87,6 @@ passed p q ls ms ns l s e h z =
       read = one_read p q ls ms ns l s.from s.read e;
     }
 
--- A head that is come to stands where the next head of the file stands.
-pub place_of_head : (p q : Place) (ls ms ns : List (List ℕ)) (l : List ℕ) → Same p ls q ms → ms ≡ l ∷ ns → is_head l ≡ true
-    → record { sheet = q.sheet + 1; line = q.line + 1 } ≡ head_place p (before ls)
-place_of_head p q ls ms ns l s e h =
-    let none_before : before ms ≡ 0 = ap before e ∙ before_head l ns h in
-    let n : q.line + 1 ≡ p.line + before ls + 1 = omega (arith, none_before, s.head) in
-    ap (λ x. record { sheet = x + 1; line = q.line + 1 }) s.sheet ∙ ap (λ x. record { sheet = p.sheet + 1; line = x }) n
-
-pub head_known : (l : List ℕ) → class_of l ≡ HeadLine → is_head l ≡ true
-head_known l e = grind (arith, nat_tests)
-
 pub no_head : (l : List ℕ) → class_of l ≡ StatementLine → is_head l ≡ false
 no_head l e = grind (arith, nat_tests)
 

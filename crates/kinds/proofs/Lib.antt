@@ -1,4 +1,3 @@
-pub mod Paged
 pub mod Framed
 pub mod Composed
 pub mod Worded

@@ -126,18 +126,6 @@ compose_eq Ordering.gt c t = same_eq Ordering.gt c t
 pub eq_compose : (b c : Ordering) → T (compose Ordering.eq b c) → b ≡ c
 eq_compose b c t = same_eq b c t
 
-pub compose_right : (o : Ordering) → T (compose o Ordering.eq o)
-compose_right Ordering.lt = tt
-compose_right Ordering.eq = tt
-compose_right Ordering.gt = tt
-
-pub ltb_compare : (m n : ℕ) → ltb m n ≡ is_lt (compare m n)
-ltb_compare m n = elim (cases_order m n) [
-  | inl e ↦ le-ltb m n (omega arith) ∙ ap is_lt (sym (said Ordering.eq m n e))
-  | inr (inl l) ↦ lt-ltb m n l ∙ ap is_lt (sym (compare_lt m n l))
-  | inr (inr g) ↦ le-ltb m n (omega arith) ∙ ap is_lt (sym (compare_gt m n g))
-]
-
 -- what the code tells of an ordering
 pub told_lt : (o : Ordering) → told_is_lt (told o) ≡ is_lt o
 told_lt Ordering.lt = refl

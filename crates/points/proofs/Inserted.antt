@@ -21,15 +21,5 @@ has_add_here set e h =
     ap (λ (n : ℕ). eqb (n % 2) 1)
     (ap (λ (n : ℕ). (set + n) / 2 ^ e) (sym (mul-one (2 ^ e))) ∙ add-mul-div_left set 1 (pow_pos e) ∙ ap (λ (n : ℕ). n + 1) (div-eq_of_lt h))
 
-pub or_bit : (set e : ℕ) → set < 2 ^ e → e < 64 → bit_or set ((1 * 2 ^ e) % 2 ^ 64) ≡ set + 2 ^ e
-or_bit set e h l =
-    ap (λ (n : ℕ). bit_or set n) (one_shl e 64 l)
-    ∙ or_comm set (2 ^ e)
-    ∙ (let one_times : 1 * 2 ^ e ≡ 2 ^ e = omega arith in
-    subst (λ (n : ℕ). bit_or n set ≡ set + n) one_times (or_shifted 1 e set h ∙ (let turn : 1 * 2 ^ e + set ≡ set + 1 * 2 ^ e = omega arith in turn)))
-
 pub add_below : (set e : ℕ) → set < 2 ^ e → set + 2 ^ e < 2 ^ (e + 1)
 add_below set e h = let double : 2 ^ (e + 1) ≡ 2 ^ e * 2 = pow-add 2 e 1 in omega arith
-
-pub set_below : (set e : ℕ) → set < 2 ^ e → set < 2 ^ (e + 1)
-set_below set e h = let double : 2 ^ (e + 1) ≡ 2 ^ e * 2 = pow-add 2 e 1 in omega arith

@@ -18,8 +18,3 @@ pub first_there : {V C : Type 0} (answers : List (Answer V C)) (i : ℕ) (a : An
     → first_sight answers ≡ first_sight (drop i answers) → sight_in a ≡ Some s → Some s ≡ first_sight answers
 first_there {V = V} {C = C} answers i a s l e h is =
     sym (ap (λ (o : Option (Sight V C)). or_else o (first_sight (drop (i + 1) answers))) is) ∙ sym (ap first_sight (remaining answers i a l e)) ∙ sym h
-
-pub first_later : {V C : Type 0} (answers : List (Answer V C)) (i : ℕ) (a : Answer V C) → i < length answers → a ≡ get_or answers i a
-    → first_sight answers ≡ first_sight (drop i answers) → sight_in a ≡ None → first_sight answers ≡ first_sight (drop (i + 1) answers)
-first_later {V = V} {C = C} answers i a l e h none =
-    h ∙ ap first_sight (remaining answers i a l e) ∙ ap (λ (o : Option (Sight V C)). or_else o (first_sight (drop (i + 1) answers))) none

@@ -77,15 +77,6 @@ module _ {C : Type 0} (r : Rules C) (n : ℕ) (rows : List Row) where
     pub leads : advance r n rows k start ≡ advance r n rows (k - m) s
     pub counts : taken r n rows k start ≡ m + taken r n rows (k - m) s
 
-  pub under_way_none : (k : ℕ) (start : Position) → UnderWay k 0 start start
-  under_way_none k start =
-      let z : k ≡ k - 0 = omega arith in
-      record {
-        few = omega arith;
-        leads = ap (λ (i : ℕ). advance r n rows i start) z;
-        counts = (let t : taken r n rows k start ≡ taken r n rows (k - 0) start = ap (λ (i : ℕ). taken r n rows i start) z in omega arith);
-      }
-
   pub under_way_more : (k m : ℕ) (start s t : Position) → UnderWay k m start s → m < k → s.cursor < total r n → t ≡ step r n rows s → UnderWay k (m + 1) start t
   under_way_more k m start s t u l room is =
       let j : k - m ≡ suc (k - (m + 1)) = omega arith in
@@ -98,15 +89,6 @@ module _ {C : Type 0} (r : Rules C) (n : ℕ) (rows : List Row) where
         leads = u.leads ∙ ap (λ (i : ℕ). advance r n rows i s) j ∙ one.0 ∙ ap (advance r n rows (k - (m + 1))) (sym is);
         counts = omega arith;
       }
-
-  -- All steps are taken, or the search has finished.
-  pub under_way_all : (k m : ℕ) (start s : Position) → UnderWay k m start s → k ≤ m → (s ≡ advance r n rows k start) × (m ≡ taken r n rows k start)
-  under_way_all k m start s u l =
-      let few = u.few in
-      let z : k - m ≡ 0 = omega arith in
-      let none : taken r n rows (k - m) s ≡ 0 = ap (λ (i : ℕ). taken r n rows i s) z in
-      let so_far = u.counts in
-      (sym (u.leads ∙ ap (λ (i : ℕ). advance r n rows i s) z), omega arith)
 
   pub under_way_done : (k m : ℕ) (start s : Position) → UnderWay k m start s → total r n ≤ s.cursor → (s ≡ advance r n rows k start) × (m ≡ taken r n rows k start)
   under_way_done k m start s u l =

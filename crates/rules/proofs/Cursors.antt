@@ -168,12 +168,6 @@ module _ (b q : ℕ) (a : List ℕ) (low : Below b a) (within : q ≤ length a) 
             g lt ∙ past_carry b j a low l (omega (arith, t, r')))
       ])
 
--- The cursor that has risen at i - 1 shares the codes before it.
-pub rise_shares : (a now zs : List ℕ) (i v : ℕ) → 0 < i → i ≤ length a → now ≡ take i a ++ zs → take (i - 1) (set now (i - 1) v) ≡ take (i - 1) a
-rise_shares a now zs i v pos within e =
-    take-set-le (i - 1) now (i - 1) v (omega arith) ∙ ap (take (i - 1)) e
-    ∙ take-append-le (i - 1) (take i a) zs (let len = length-take-le i a within in omega (arith, len)) ∙ take-take (i - 1) i a (omega arith)
-
 -- The scenario numbered 1: zeros, and 1 in the last pair.
 pub index_second : (b p : ℕ) → index b (zeros p ++ (1 ∷ [])) ≡ 1
 index_second b p =

@@ -44,19 +44,6 @@ sound_from n r m =
     (and_from _ _ (le-leb 1 r.weight m.some_weight) (le-leb r.weight 1000 m.most_weight))
     (and_from _ _ (le-leb 1 r.person m.some_person) (le-leb r.person 20 m.most_person))))
 
--- a row that is proper among n items is proper among more
-pub sound_wider : (n m : ℕ) (r : Row) → n ≤ m → Sound n r → Sound m r
-sound_wider n m r l h =
-    let a = measured n r h in
-    sound_from m r (record {
-      ordered = a.ordered;
-      within = omega arith;
-      some_weight = a.some_weight;
-      most_weight = a.most_weight;
-      some_person = a.some_person;
-      most_person = a.most_person;
-    })
-
 -- and it stays proper when it is given another weight from 1 to 1,000
 pub sound_weight : (n : ℕ) (r : Row) (w : ℕ) → 1 ≤ w → w ≤ 1000 → Sound n r → Sound n (with_weight r w)
 sound_weight n r w some most h =
@@ -94,11 +81,6 @@ proper_from n rows few each =
 pub proper_push : (n : ℕ) (rows : List Row) (r : Row) → proper n rows ≡ true → length rows < 256 → Sound n r → proper n (rows ++ r ∷ []) ≡ true
 proper_push n rows r h few sound =
     proper_from n (rows ++ r ∷ []) (let more = length_push rows r in omega arith) (All-push (Sound n) rows r (sound_rows n rows h) sound)
-
--- the same, where the rows are what a push left that did not fail
-pub proper_pushed : (n : ℕ) (rows after : List Row) (r : Row) (done : Bool) → after ≡ cond done (rows ++ r ∷ []) rows → done ≡ true → proper n rows ≡ true → length rows < 256 → Sound n r → proper n after ≡ true
-proper_pushed n rows after r done is d h few sound =
-    subst (λ (rs : List Row). proper n rs ≡ true) (sym (is ∙ cond-true done (rows ++ r ∷ []) rows d)) (proper_push n rows r h few sound)
 
 -- one row replaced
 pub proper_set : (n : ℕ) (rows : List Row) (i : ℕ) (r : Row) → proper n rows ≡ true → Sound n r → proper n (set rows i r) ≡ true

@@ -5,10 +5,6 @@ use Rattle.std.proofs.lemmas.List.{length-replicate, length-take-le, get_or-repl
 use Rattle.rules.proofs.Cursors.{zeros}
 use Rattle.search.specs.Sheets.{Blank}
 
--- Past the last pair there is no code.
-pub blank_end : (m : ℕ) (a : List ℕ) → length a ≤ m → Blank m a
-blank_end m a long k l = get_or_past a k 0 (omega (arith, long, l))
-
 zeros_read : (r k : ℕ) → get_or (zeros r) k 0 ≡ 0
 zeros_read r k = elim (cases_lt k r) [
   | inl lt ↦ get_or-replicate r k 0 0 lt
@@ -18,12 +14,6 @@ zeros_read r k = elim (cases_lt k r) [
 -- Zeros are 0 from each place on.
 pub blank_zeros : (m r : ℕ) → Blank m (zeros r)
 blank_zeros m r k l = zeros_read r k
-
--- The codes after a prefix that zeros follow are 0, also once another code is written as its last.
-pub blank_after : (i r : ℕ) (a now : List ℕ) → i ≤ length a → now ≡ take i a ++ zeros r → Blank i now
-blank_after i r a now within e k l =
-    ap (λ (z : List ℕ). get_or z k 0) e
-    ∙ get_or-append_right (take i a) (zeros r) i k 0 (length-take-le i a within) l ∙ zeros_read r (k - i)
 
 pub blank_set : (i v : ℕ) (a : List ℕ) → 0 < i → Blank i a → Blank i (set a (i - 1) v)
 blank_set i v a pos blank k l = let ne : k ≢ i - 1 = omega (arith, pos, l) in get_or-set_other a (i - 1) k v 0 ne ∙ blank k l

@@ -36,11 +36,6 @@ kept_counting f rows = kept_by_twice f counts (λ (r : Row). counts r && f r) (�
 pub turn_joins : {C : Type 0} (join : C → C → C) {cost here sum was next new : C} → cost ≡ here → sum ≡ was → next ≡ join was here → new ≡ join sum cost → new ≡ next
 turn_joins join cost so_far more now = cc
 
--- A turn of a loop that keeps the lesser of two costs.
-pub turn_lesser : {C : Type 0} (at_most : C → C → Bool) {cost here least was next new : C}
-    → cost ≡ here → least ≡ was → next ≡ cond (at_most here was) here was → new ≡ cond (at_most cost least) cost least → new ≡ next
-turn_lesser at_most cost so_far more now = cc
-
 module _ {C : Type 0} (j : Joining Claim C) where
   -- The cost, the charge of a person and the cost of a pair, each by one filter of all rows.
   pub cost_kept : (rows : List Row) (f : ℕ → ℕ → ℕ)
@@ -64,15 +59,6 @@ module _ {C : Type 0} (j : Joining Claim C) where
       (kept_by_twice test here (λ r. here r && test r) (λ r. refl) (counting rows) ∙ kept_counting (λ r. here r && test r) rows)
 
   module _ (at_most : C → C → Bool) (rows : List Row) where
-    -- The bound of a pair over one code more.
-    pub pair_bound_more : (b s : ℕ) → 1 ≤ b → pair_bound j at_most (b + 1) rows s
-        ≡ cond (at_most (pair_cost j rows s b) (pair_bound j at_most b rows s)) (pair_cost j rows s b) (pair_bound j at_most b rows s)
-    pair_bound_more zero s h = absurd (omega arith)
-    pair_bound_more (suc b) s h =
-        let up : (suc b + 1) - 1 ≡ suc b = omega arith in
-        let down : suc b - 1 ≡ b = omega arith in
-        rw (up, down) refl
-
     -- The bounds of the pairs from q on are that of q joined with those from q + 1 on.
     pub bounds_first : (b q p : ℕ) → q < p → span (of_rows j) (pair_bound j at_most b rows) q (p - q)
         ≡ j.join (pair_bound j at_most b rows q) (span (of_rows j) (pair_bound j at_most b rows) (suc q) (p - suc q))

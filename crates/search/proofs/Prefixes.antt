@@ -213,18 +213,6 @@ module _ {C : Type 0} (r : Rules C) (n : ℕ) (rows : List Row) where
       ap (λ (v : Bool). v || r.at_most best (prefix_bound r.joining r.at_most r.codes (pairs n) rows q a)) is_unfit
       ∙ ap (λ (z : C). u || r.at_most best z) whole ∙ ap (λ (v : Bool). u || v) (sym is_over)
 
-  -- A prefix that is not refuted has no triple that does not fit.
-  pub stands_fits : (best : C) (a : List ℕ) (q : ℕ) → refuted r n rows best a q ≡ false → unfit r n q a ≡ false
-  stands_fits best a q h = (or_parts (unfit r n q a) (r.at_most best (prefix_bound r.joining r.at_most r.codes (pairs n) rows q a)) h).0
-
 module _ {C : Type 0} (j : Joining Claim C) (rows : List Row) where
   pub spent_kept : (a e : List ℕ) (spent : List C) (q m : ℕ) → m ≤ q → take (m - 1) e ≡ take (m - 1) a → Spent j rows a q spent → Spent j rows e m spent
   spent_kept a e spent q m h s known z lt = known z (omega arith) ∙ sym (spent_same j rows a e z (take_less z (m - 1) a e (omega arith) s))
-
-  -- The cost of the next prefix is noted.
-  pub spent_more : (a : List ℕ) (spent : List C) (m : ℕ) (cost : C) → m < length spent → Spent j rows a m spent → cost ≡ spent_on j rows a m
-      → Spent j rows a (m + 1) (set spent m cost)
-  spent_more a spent m cost within known is =
-      below_more _ _
-      (λ z lt. let ne : z ≢ m = omega arith in get_or-set_other spent m z cost j.empty ne ∙ known z lt)
-      (get_or-set_same spent m cost j.empty within ∙ is)
