@@ -7,7 +7,7 @@ use Rattle.files.specs.declared.fault.SheetFault.{SheetFault}
 use Rattle.files.specs.declared.head.Head.{Head}
 use Rattle.files.specs.Heads.{is_head, head_in}
 use Rattle.files.specs.Sheets.{before, onward, head_place, located, stray_fault, next_head, class_of, state_of}
-use Rattle.files.specs.declared.class.Class.TheVariants.{HeadLine, StatementLine}
+use Rattle.files.specs.declared.class.Class.TheVariants.{StatementLine}
 use Rattle.files.specs.declared.class.State.TheVariants.{InSheet}
 use Rattle.std.proofs.lemmas.Bool.{cond-false, and_left, ne_eqb}
 

@@ -1,8 +1,8 @@
 -- What the comparison of two numbers tells, and the laws of the point algebra.
-use Rattle.std.proofs.Common.{◌≡◌, ℕ, zero, suc, ◌<◌, T, ltb, sym, refl, ap, ◌∙◌, subst, inl, inr, le_of_suc-le-suc, not-suc-le-zero, arith}
+use Rattle.std.proofs.Common.{◌≡◌, ℕ, zero, suc, ◌<◌, T, sym, refl, ◌∙◌, subst, inl, inr, le_of_suc-le-suc, not-suc-le-zero, arith}
 use Prim.Native.Nat.compare
 use Prim.Native.Nat.{Ordering, compare}
-use Rattle.std.proofs.lemmas.Bool.{cases_order, lt-ltb, le-ltb}
+use Rattle.std.proofs.lemmas.Bool.{cases_order}
 use Rattle.std.specs.Ordering.{is_lt as told_is_lt}
 use Rattle.points.specs.Points.{Says, converse, told, is_lt, same, compose}
 use Rattle.points.proofs.Finite.{implies, implied, every, every_at}

@@ -2,7 +2,7 @@
 use Rattle.std.proofs.Common.{◌≡◌, ℕ, zero, suc, ◌+◌, ◌-◌, ◌*◌, ◌/◌, ◌^◌, ◌<◌, ◌≤◌, List, [], ◌∷◌, ◌++◌, length, get_or, take, drop, set, replicate, sym, ap, ◌∙◌, subst, inl, inr, append_assoc, mul_assoc, mul_comm, add-mul, eq-or-lt_of_le, one-mul, pow-suc, zero-add, zero-mul, mul-one, div-one, arith, take-suc, pow-add}
 use native.Mathlib.Nat.{pow-zero}
 use lib.Arith.{digits_div}
-use Rattle.std.proofs.lemmas.List.{length-append, length-drop, length-replicate, length-take-le, take-append-drop, take-take, take-append-le, take-set-le, set_at, get_or_at}
+use Rattle.std.proofs.lemmas.List.{length-append, length-drop, length-replicate, length-take-le, take-append-drop, set_at, get_or_at}
 use Rattle.std.proofs.ByRecursion.{All-get_or, All-append, All-take, All-drop}
 use Rattle.rules.specs.Orders.{Below, index, digits, past}
 use Rattle.rules.proofs.Orders.{index_lt, index_same, index_digits, index_zeros, below_zeros, below_digits, length_digits}

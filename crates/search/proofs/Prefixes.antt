@@ -1,9 +1,9 @@
 -- Prefixes of scenarios: what one more code adds, and what scenarios that share a prefix share.
-use Rattle.std.proofs.Common.{◌≡◌, ℕ, zero, suc, ◌+◌, ◌-◌, ◌<◌, ◌≤◌, Bool, true, false, not, ◌&&◌, ◌||◌, ltb, ◌≢◌, List, [], ◌∷◌, length, get_or, take, drop, set, sym, refl, ap, ◌∙◌, subst, inl, inr, arith, below_more}
+use Rattle.std.proofs.Common.{◌≡◌, ℕ, zero, suc, ◌+◌, ◌-◌, ◌<◌, ◌≤◌, Bool, true, false, not, ◌&&◌, ◌||◌, ltb, List, [], ◌∷◌, length, get_or, take, drop, sym, refl, ap, ◌∙◌, subst, inl, inr, arith}
 use Rattle.std.specs.List.{list_any, zip}
 use Rattle.std.proofs.Math.Bool.{or_assoc, or_comm, and-false}
-use Rattle.std.proofs.lemmas.List.{length-take-le, length-drop, get_or-take, get_or-drop, take-take, get_or-set_same, get_or-set_other}
-use Rattle.std.proofs.lemmas.Bool.{cases_Bool, cases_lt, both_ways, and_cases, or_parts, or_left, or_right, lt-ltb, le-ltb, not-false, not-true}
+use Rattle.std.proofs.lemmas.List.{length-take-le, length-drop, get_or-take, get_or-drop, take-take}
+use Rattle.std.proofs.lemmas.Bool.{cases_Bool, cases_lt, both_ways, and_cases, or_left, or_right, lt-ltb, le-ltb, not-false, not-true}
 use Rattle.points.specs.Scenarios.{pairs, place, entry}
 use Rattle.points.proofs.Placed.{pairs_up}
 use Rattle.tallies.specs.Joins.{Joining}
