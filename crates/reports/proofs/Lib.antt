@@ -1,5 +1,5 @@
 -- The lemmas, by topic.
 pub mod Lined
-pub mod Remaining
+pub mod Seen
 pub mod Settled
 pub mod Sights

@@ -11,13 +11,7 @@ pub fn first_sight<V, C>(answers: &[Answer<V, C>]) -> Option<&Sight<V, C>>
     ensures stands { IsFirstSight answers.now (option_copied result) }
     ensures is { option_copied result ≡ first_of_sights answers.now }
 {
-    // A loop: the library says of `find_map` where it stops, and no lemma leads from there to the items of a slice.
-    for answer in answers {
-        if let Some(sight) = answer.sight() {
-            return Some(sight);
-        }
-    }
-    None
+    answers.iter().find_map(Answer::sight)
 }
 
 /// The charges, in their order.
