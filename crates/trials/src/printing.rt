@@ -34,10 +34,7 @@ const CIRCLE: &str =
 #[test]
 fn a_report(rt: HostRuntime) -> Result<(), Fail> {
     let heap = rt.alloc();
-    let mut values = Vec::new(heap);
-    for at in [1, 2, 0] {
-        values.push(Moment { at })?;
-    }
+    let values = vec![in heap; Moment { at: 1 }, Moment { at: 2 }, Moment { at: 0 }]?;
     let sight = Sight {
         values,
         cost: 2,
@@ -97,13 +94,11 @@ fn an_open_report(rt: HostRuntime) -> Result<(), Fail> {
 fn the_longest_report(rt: HostRuntime) -> Result<(), Fail> {
     let heap = rt.alloc();
     let most = u32::MAX;
-    let mut values = Vec::new(heap);
-    for _ in 0..12 {
-        values.push(Spell {
-            start: most,
-            end: most,
-        })?;
-    }
+    let spell = Spell {
+        start: most,
+        end: most,
+    };
+    let values = vec![in heap; spell; 12]?;
     let cost = SwornCost {
         sworn: most,
         weight: most,

@@ -23,7 +23,7 @@ const EARLIER: Entry = Entry {
     sworn: false,
 };
 
-/// The sort of an answer and the number that it tells, 0 where it tells none.
+/// The sort of an answer, by a letter so that a script stands in a table, and the number that it tells, 0 where it tells none.
 fn told(answer: &Answer<Value, Cost>) -> (char, u32) {
     match answer {
         Answer::Unmade => ('-', 0),
@@ -63,10 +63,7 @@ fn a_script(rt: HostRuntime) -> Result<(), Fail> {
         (Call::Strike(1), ('d', 0)),
         (Call::Strike(1), ('r', 9)),
     ];
-    let mut calls = Vec::new(heap);
-    for (call, _) in script {
-        calls.push(call)?;
-    }
+    let calls: Vec<Call> = script.iter().map(|(call, _)| *call).collect(heap)?;
     let answers = replay(heap, draft, calls.as_slice())?;
     assert_eq!(rt; answers.len(), script.len());
     for ((_, wanted), answer) in script.iter().zip(&answers) {
