@@ -209,6 +209,8 @@ impl Notation for Dwellings {
 
     ghost worded = { refl };
 
+    ghost written = { refl };
+
     ghost unambiguous = { Worded.unambiguous dwelling_words tt };
 
     ghost named = { Worded.named dwelling_words (Worded.unambiguous dwelling_words tt) };

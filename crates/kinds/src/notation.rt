@@ -1,6 +1,7 @@
 // How kinds are written: letters and relation words.
-ghost use Rattle.std.specs.Prelude.{◌≡◌, ℕ, List, [], length, slice_index_or};
-ghost use Rattle.kinds.specs.Words.{read, Unambiguous, Named};
+ghost use Rattle.std.specs.Prelude.{◌≡◌, ℕ, true, List, [], length, slice_index_or};
+ghost use Rattle.std.specs.List.{list_all};
+ghost use Rattle.kinds.specs.Words.{read, writable, Unambiguous, Named};
 
 use crate::kind::Kind;
 
@@ -26,6 +27,9 @@ pub trait Notation: Kind {
 
     /// Each base relation has a word.
     ghost worded: { length words ≡ Self.Kind.meaning.codes };
+
+    /// A line of a file can hold each word.
+    ghost written: { list_all writable words ≡ true };
 
     /// No two words are alike.
     ghost unambiguous: { Unambiguous words };

@@ -112,6 +112,8 @@ impl Notation for Moments {
 
     ghost worded = { refl };
 
+    ghost written = { refl };
+
     ghost unambiguous = { Worded.unambiguous moment_words tt };
 
     ghost named = { Worded.named moment_words (Worded.unambiguous moment_words tt) };

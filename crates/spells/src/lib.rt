@@ -79,6 +79,8 @@ impl Notation for Spells {
 
     ghost worded = { refl };
 
+    ghost written = { refl };
+
     ghost unambiguous = { Worded.unambiguous spell_words tt };
 
     ghost named = { Worded.named spell_words (Worded.unambiguous spell_words tt) };
