@@ -16,7 +16,7 @@ scenario_of f (suc j) = scenario_of f j ++ column f j j
 abbrev pub Below : ℕ → List ℕ → Type 0
 Below b scenario = Every (λ c. c < b) scenario
 
--- dictionary order
+-- dictionary order, of scenarios of one length
 abbrev pub Before : List ℕ → List ℕ → Type 0
 Before [] e = ⊥
 Before (c ∷ a) [] = ⊥
