@@ -24,6 +24,7 @@ Holds north_west u v = (u.east < v.east) × (v.north < u.north)
 abbrev pub directions : List Direction
 directions = same ∷ north ∷ north_east ∷ east ∷ south_east ∷ south ∷ south_west ∷ west ∷ north_west ∷ []
 
+-- the direction with this code
 abbrev pub coded : ℕ → Direction
 coded c = slice_index_or directions c same
 
@@ -72,6 +73,7 @@ northward south_west = Ordering.lt
 northward west = Ordering.eq
 northward north_west = Ordering.gt
 
+-- how two dwellings stand along an axis, 0 the east, under a direction
 abbrev pub along : ℕ → Direction → Ordering
 along zero d = eastward d
 along (suc a) d = northward d

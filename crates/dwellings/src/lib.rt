@@ -207,7 +207,13 @@ impl Notation for Dwellings {
 
     ghost words = { dwelling_words };
 
+    ghost worded = { refl };
+
+    ghost written = { refl };
+
     ghost unambiguous = { Worded.unambiguous dwelling_words tt };
+
+    ghost named = { Worded.named dwelling_words (Worded.unambiguous dwelling_words tt) };
 
     fn letter() -> u8 {
         b'D'

@@ -16,7 +16,7 @@ use Rattle.figures.specs.Small.{moments_by_weight, moments_sworn_first, househol
 abbrev pub code : List (List ℕ) → String → ℕ
 code words word = unwrap_or (read words (codes word)) 64
 
--- The composition of two relations is exactly these: a triple fits where the third is one of them, among all natural numbers.
+-- The composition of two relations is exactly these: a triple fits exactly where the third is one of them, among all natural numbers.
 abbrev pub Composed : {V : Type 0} → Meaning V → List (List ℕ) → String → String → List String → Type 0
 Composed m words first second these = (e : ℕ) → Fits m (code words first) (code words second) e ↔ Has e (map (code words) these)
 

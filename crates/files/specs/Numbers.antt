@@ -15,5 +15,6 @@ unfoldable pub is_number : List ℕ → Bool
 is_number bs =
     nat_le 1 (length bs) && nat_le (length bs) 6 && list_all is_ascii_digit bs && (not (slice_index bs 0 == 48) || length bs == 1)
 
+-- the number that a field is, or the fault that it is none
 abbrev pub number_in : List ℕ → Result ℕ FieldFault
 number_in field = given (is_number field) (value_of field) NotNumber

@@ -24,7 +24,7 @@ pub record View : Type 0 where
 abbrev pub ahead_of : Spot → List (List ℕ)
 ahead_of s = lines s.ahead.rest.now
 
--- of a file that is too long there is neither
+-- how a reader is seen: a file that is too long has no lines to come
 abbrev pub view_of : Reader → View
 view_of r = elim r.spot [
   | Some s ↦ record { too_long = false; place = s.place; ahead = ahead_of s; waiting = r.waiting }
@@ -83,6 +83,7 @@ pub record Contents : Type 0 where
   pub items : ℕ
   pub rows : List Row
 
+-- a draft, by its number of items and its rows
 abbrev pub contents : ℕ → List Row → Contents
 contents items rows = record { items = items; rows = rows }
 

@@ -49,6 +49,7 @@ are_words code field = all_words code (words field)
 unfoldable pub set_of : (List ℕ → Option ℕ) → List ℕ → ℕ
 set_of code field = with_words code 0 (words field)
 
+-- the set that a field names, or the fault that one of its words is none
 abbrev pub set_in : (List ℕ → Option ℕ) → List ℕ → Result ℕ FieldFault
 set_in code field = given (are_words code field) (set_of code field) NotWord
 

@@ -5,6 +5,7 @@ use Rattle.points.specs.Points.{compose}
 use Rattle.points.specs.Tests.{upto}
 use Rattle.points.specs.Marks.{mark_rank}
 
+-- How a kind is laid out: how many base relations, axes and marks there are, and how marks stand under each code.
 pub record Layout : Type 0 where
   pub codes : ℕ
   pub axes : ℕ

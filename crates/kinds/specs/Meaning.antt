@@ -20,7 +20,8 @@ pub record ExactlyOne {V : Type 0} (m : Meaning V) (u v : V) : Type 0 where
   pub that : m.holds (m.relation u v) u v
   pub only : (c : ℕ) → m.holds c u v → c ≡ m.relation u v
 
--- The self-relation and converse duties of a kind.
+-- The duties of a kind: of two lawful values exactly one base relation holds, code 0 of a value and itself, and the converse the other
+-- way. That each base relation holds of some values, and code 0 of equal ones alone, is not asked.
 pub record Laws {V : Type 0} (m : Meaning V) : Type 0 where
   pub some_codes : 1 ≤ m.codes
   pub few_codes : m.codes ≤ 64

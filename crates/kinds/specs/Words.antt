@@ -1,5 +1,6 @@
 -- Relation words: the texts by which files and reports name the base relations of a kind, in the order of their codes.
-use Rattle.std.specs.Prelude.{◌≡◌, ℕ, suc, ◌<◌, Bool, true, cond, ◌&&◌, List, [], ◌∷◌, length, Some, None, Option, ◌==◌, slice_index, slice_index_or}
+use Rattle.std.specs.Prelude.{◌≡◌, ℕ, suc, ◌<◌, Bool, true, cond, ◌&&◌, List, [], ◌∷◌, length, Some, None, Option, ◌==◌, ◌↔◌, ◌||◌, not, nat_le, slice_index, slice_index_or}
+use Rattle.std.specs.List.{list_all}
 
 -- from place i on, the text has the bytes of the word
 abbrev pub goes_on : List ℕ → ℕ → List ℕ → Bool
@@ -22,3 +23,11 @@ read words text = place_from 0 words text
 -- each word stands for its own code, so no two are alike
 abbrev pub Unambiguous : List (List ℕ) → Type 0
 Unambiguous words = (c : ℕ) → c < length words → read words (slice_index_or words c []) ≡ Some c
+
+-- a text stands for a code exactly if it is the code's word
+abbrev pub Named : List (List ℕ) → Type 0
+Named words = (text : List ℕ) (c : ℕ) → (read words text ≡ Some c) ↔ ((c < length words) × (text ≡ slice_index_or words c []))
+
+-- A line of a file can hold the word: it has 1 to 64 bytes, none of which parts words, fields or lines.
+abbrev pub writable : List ℕ → Bool
+writable word = nat_le 1 (length word) && (nat_le (length word) 64 && list_all (λ b. not (b == 47 || (b == 32 || b == 10))) word)

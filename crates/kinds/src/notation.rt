@@ -1,9 +1,12 @@
 // How kinds are written: letters and relation words.
-ghost use Rattle.std.specs.Prelude.{◌≡◌, ℕ, List, [], slice_index_or};
-ghost use Rattle.kinds.specs.Words.{read, Unambiguous};
+ghost use Rattle.std.specs.Prelude.{◌≡◌, ℕ, true, List, [], length, slice_index_or};
+ghost use Rattle.std.specs.List.{list_all};
+ghost use Rattle.kinds.specs.Words.{read, writable, Unambiguous, Named};
+
+use crate::kind::Kind;
 
 /// How a kind is written in files and reports: its letter, and the words of its base relations in the order of their codes.
-pub trait Notation {
+pub trait Notation: Kind {
     /// The letter, as a byte.
     ghost initial: { ℕ };
 
@@ -22,6 +25,15 @@ pub trait Notation {
     fn code(word: &[u8]) -> Option<u8>
         ensures { result ≡ read words word.now };
 
+    /// Each base relation has a word.
+    ghost worded: { length words ≡ Self.Kind.meaning.codes };
+
+    /// A line of a file can hold each word.
+    ghost written: { list_all writable words ≡ true };
+
     /// No two words are alike.
     ghost unambiguous: { Unambiguous words };
+
+    /// A text is read as a code exactly if it is the code's word.
+    ghost named: { Named words };
 }

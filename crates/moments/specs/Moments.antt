@@ -10,6 +10,7 @@ use Rattle.kinds.specs.Layouts.{Layout, rank_on}
 abbrev pub coded : ℕ → Ordering
 coded c = slice_index_or (Ordering.eq ∷ Ordering.lt ∷ Ordering.gt ∷ []) c Ordering.eq
 
+-- the code of the base relation, by how the numbers compare
 abbrev pub code : Ordering → ℕ
 code Ordering.eq = 0
 code Ordering.lt = 1

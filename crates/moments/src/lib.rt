@@ -110,7 +110,13 @@ impl Notation for Moments {
 
     ghost words = { moment_words };
 
+    ghost worded = { refl };
+
+    ghost written = { refl };
+
     ghost unambiguous = { Worded.unambiguous moment_words tt };
+
+    ghost named = { Worded.named moment_words (Worded.unambiguous moment_words tt) };
 
     fn letter() -> u8 {
         b'M'

@@ -18,6 +18,7 @@ abbrev pub marks : ℕ → ℕ → List (ℕ × ℕ)
 marks m zero = []
 marks m (suc n) = of_item n m (marks m n)
 
+-- one of three, by how two marks stand
 abbrev pub choose : {A : Type 0} → Ordering → A → A → A → A
 choose Ordering.lt a b c = a
 choose Ordering.eq a b c = b

@@ -22,11 +22,13 @@ told Ordering.lt = Less
 told Ordering.eq = Equal
 told Ordering.gt = Greater
 
+-- before
 abbrev pub is_lt : Ordering → Bool
 is_lt Ordering.lt = true
 is_lt Ordering.eq = false
 is_lt Ordering.gt = false
 
+-- the two are the same
 abbrev pub same : Ordering → Ordering → Bool
 same Ordering.lt Ordering.lt = true
 same Ordering.lt Ordering.eq = false

@@ -8,6 +8,7 @@ abbrev pub Has : {A : Type 0} → A → List A → Type 0
 Has x [] = ⊥
 Has x (y ∷ ys) = (x ≡ y) ⊎ Has x ys
 
+-- how many of the list stand before x
 abbrev pub rank : {A : Type 0} → (A → A → Ordering) → List A → A → ℕ
 rank cmp xs x = count_by (λ y. is_lt (cmp y x)) xs
 

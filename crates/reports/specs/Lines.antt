@@ -11,6 +11,7 @@ pub record Print (V C : Type 0) : Type 0 where
   pub value : V → List ℕ
   pub cost : C → List ℕ
 
+-- the two letters, and the texts of values and costs
 abbrev pub print : {V C : Type 0} → ℕ → ℕ → (V → List ℕ) → (C → List ℕ) → Print V C
 print kind tally value cost = record { kind = kind; tally = tally; value = value; cost = cost }
 

@@ -1,11 +1,11 @@
 -- The cursor as codes: the number after all scenarios that share a prefix, by carrying.
-use Rattle.std.proofs.Common.{◌≡◌, ℕ, zero, suc, ◌+◌, ◌-◌, ◌*◌, ◌/◌, ◌^◌, ◌<◌, ◌≤◌, List, [], ◌∷◌, ◌++◌, length, get_or, take, drop, set, replicate, sym, ap, ◌∙◌, subst, inl, inr, append_assoc, mul_assoc, mul_comm, add-mul, eq-or-lt_of_le, one-mul, pow-suc, zero-add, zero-mul, mul-one, div-one, arith, take-suc, pow-add}
+use Rattle.std.proofs.Common.{◌≡◌, ℕ, zero, suc, ◌+◌, ◌-◌, ◌*◌, ◌/◌, ◌^◌, ◌<◌, ◌≤◌, List, [], ◌∷◌, ◌++◌, length, get_or, take, drop, set, replicate, sym, refl, ap, ◌∙◌, subst, inl, inr, append_assoc, mul_assoc, mul_comm, add-mul, eq-or-lt_of_le, one-mul, pow-suc, zero-add, zero-mul, mul-one, div-one, arith, take-suc, pow-add}
 use native.Mathlib.Nat.{pow-zero}
 use lib.Arith.{digits_div}
 use Rattle.std.proofs.lemmas.List.{length-append, length-drop, length-replicate, length-take-le, take-append-drop, set_at, get_or_at}
 use Rattle.std.proofs.ByRecursion.{All-get_or, All-append, All-take, All-drop}
-use Rattle.rules.specs.Orders.{Below, index, digits, past}
-use Rattle.rules.proofs.Orders.{index_lt, index_same, index_digits, index_zeros, below_zeros, below_digits, length_digits}
+use Rattle.rules.specs.Orders.{Below, index, digits, past, Numbers, Skips}
+use Rattle.rules.proofs.Orders.{shares_prefix, past_beyond, index_lt, index_same, index_digits, index_zeros, below_zeros, below_digits, length_digits}
 
 -- So many codes 0.
 abbrev pub zeros : ℕ → List ℕ
@@ -50,6 +50,31 @@ index_take b q a h l =
 -- `past` by the number of the prefix.
 past_is : (b q : ℕ) (a : List ℕ) → Below b a → q ≤ length a → past b (length a) q (index b a) ≡ (index b (take q a) + 1) * b ^ (length a - q)
 past_is b q a h l = ap (λ (z : ℕ). (z + 1) * b ^ (length a - q)) (index_take b q a h l)
+
+-- The codes as digits are the scenario of that number.
+pub numbers : (b : ℕ) → Numbers b
+numbers b [] h = refl
+numbers b (c ∷ a) h = digits_index b (length (c ∷ a)) (c ∷ a) (omega (arith, h.0)) h refl
+
+-- Of the scenarios from a on, those that share its first q codes are just those numbered below `past`.
+pub skips : (b : ℕ) → Skips b
+skips b q [] [] h g l within from =
+    let none : 0 - q ≡ 0 = omega arith in
+    ((λ same. rw (none, pow-zero) (omega arith)), λ less. refl)
+skips b q [] (d ∷ e) h g l within from = absurd (omega (arith, l))
+skips b q (c ∷ a) e h g l within from = (
+  (λ same. let quotient : index b e / b ^ (p - q) ≡ index b (c ∷ a) / b ^ (p - q) =
+      subst (λ (n : ℕ). index b e / b ^ (n - q) ≡ index b (take q e)) l (index_take b q e g (omega (arith, within, l)))
+      ∙ ap (index b) same ∙ sym (index_take b q (c ∷ a) h within) in
+      subst (λ (z : ℕ). index b e < (z + 1) * b ^ (p - q)) quotient (past_beyond b p q (index b e) pos)),
+  λ less. shares_prefix b p q (index b (c ∷ a)) e pos within (index_lt b (c ∷ a) h) g l from less ∙ ap (take q) (numbers b (c ∷ a) h),
+)
+  where
+    p : ℕ
+    p = length (c ∷ a)
+
+    pos : 0 < b
+    pos = omega (arith, h.0)
 
 -- The number of a prefix with one more code.
 index_more : (b i : ℕ) (a : List ℕ) → i < length a → index b (take (suc i) a) ≡ index b (take i a) * b + get_or a i 0

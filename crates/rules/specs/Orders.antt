@@ -1,5 +1,5 @@
 -- Scenarios in dictionary order, the first pair counting most, and their numbers in that order.
-use Rattle.std.specs.Prelude.{◌≡◌, ℕ, zero, suc, ◌+◌, ◌-◌, ◌*◌, ◌/◌, ◌%◌, ◌^◌, ◌<◌, ◌⊎◌, ◌↔◌, List, [], ◌∷◌, ◌++◌, length}
+use Rattle.std.specs.Prelude.{◌≡◌, ℕ, zero, suc, ◌+◌, ◌-◌, ◌*◌, ◌/◌, ◌%◌, ◌^◌, ◌<◌, ◌≤◌, ◌⊎◌, ◌↔◌, List, [], ◌∷◌, ◌++◌, length, take}
 use Rattle.std.specs.List.{AllByRecursion as Every}
 
 -- the codes of the pairs (0, j), .., (i - 1, j), where the pair of i and j has the code f i j
@@ -16,7 +16,7 @@ scenario_of f (suc j) = scenario_of f j ++ column f j j
 abbrev pub Below : ℕ → List ℕ → Type 0
 Below b scenario = Every (λ c. c < b) scenario
 
--- dictionary order
+-- dictionary order, of scenarios of one length
 abbrev pub Before : List ℕ → List ℕ → Type 0
 Before [] e = ⊥
 Before (c ∷ a) [] = ⊥
@@ -39,3 +39,12 @@ past b p q m = (m / b ^ (p - q) + 1) * b ^ (p - q)
 -- The number keeps dictionary order.
 abbrev pub InOrder : ℕ → Type 0
 InOrder b = (a e : List ℕ) → Below b a → Below b e → length a ≡ length e → (Before a e ↔ (index b a < index b e))
+
+-- The codes as digits are the scenario of that number.
+abbrev pub Numbers : ℕ → Type 0
+Numbers b = (a : List ℕ) → Below b a → digits b (length a) (index b a) ≡ a
+
+-- Of the scenarios from a on, those that share its first q codes are just those numbered below `past`.
+abbrev pub Skips : ℕ → Type 0
+Skips b = (q : ℕ) (a e : List ℕ) → Below b a → Below b e → length e ≡ length a → q ≤ length a → index b a ≤ index b e
+    → ((take q e ≡ take q a) ↔ (index b e < past b (length a) q (index b a)))

@@ -20,6 +20,7 @@ pub record Position : Type 0 where
   pub incumbent : List ℕ
   pub cursor : ℕ
 
+-- a position, by its incumbent and its cursor
 abbrev pub position : List ℕ → ℕ → Position
 position a m = record { incumbent = a; cursor = m }
 

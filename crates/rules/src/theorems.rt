@@ -1,13 +1,13 @@
 // The theorems on the search, for any kind and any tally.
 ghost use Rattle.std.specs.Prelude.{◌≡◌, ℕ};
-ghost use Rattle.rules.specs.Orders.{InOrder};
+ghost use Rattle.rules.specs.Orders.{InOrder, Numbers, Skips};
 ghost use Rattle.rules.specs.Soundness.{SearchSound, InParts, BoundBelow, BoundLeast, PairsJoin, ChargesJoin, rules};
 
 use kinds::kind::Kind;
 use tallies::tally::{Joins, Tally};
 
 /// How many persons there are whose charges join to the cost of a scenario. So do the costs of its pairs; the numbers of scenarios keep
-/// their dictionary order; and the search is sound: the incumbent is the first best of the scenarios before the cursor. It may be
+/// their dictionary order, and a step passes over just those that share the refuted prefix; and the search is sound: the incumbent is the first best of the scenarios before the cursor. It may be
 /// carried out in parts. The lower bound of a pair is the least of its costs, and that of a sheet is at most the cost of each
 /// assignment.
 pub fn sound<K: Kind, T: Tally>() -> u8
@@ -19,6 +19,8 @@ pub fn sound<K: Kind, T: Tally>() -> u8
     ensures pairs { PairsJoin T.Joins.joining }
     ensures charges { ChargesJoin T.Joins.joining }
     ensures order { (b : ℕ) → InOrder b }
+    ensures numbers { (b : ℕ) → Numbers b }
+    ensures skips { (b : ℕ) → Skips b }
 {
     20
 }

@@ -30,6 +30,7 @@ module _ {V C : Type 0} (m : Meaning V) (values : ℕ → List ℕ → ℕ → V
     pub floor_is : sight.floor ≡ sheet_bound r.joining r.at_most r.codes n rows
     pub finished_is : sight.finished ≡ finished r n s
 
+  -- What a show on so many places answers: what is shown, or the refusal of its first check that fails.
   abbrev pub Showing : ℕ → List Row → Position → ℕ → Answer V C → Type 0
   Showing n rows s places Unmade = ⊥
   Showing n rows s places (Refused f) = first_fault (show_checks n places) ≡ Some f

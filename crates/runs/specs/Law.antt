@@ -55,6 +55,7 @@ is_took (Took t) = true
 is_took (Shown sight) = false
 is_took (Charged c) = false
 
+-- the call was carried out and had nothing to tell
 abbrev pub is_done : {V C : Type 0} → Answer V C → Bool
 is_done Unmade = false
 is_done (Refused f) = false
@@ -145,7 +146,8 @@ module _ {V C : Type 0} (m : Meaning V) (r : Rules C) where
       → ((p : ℕ) → 1 ≤ p → p ≤ 20 → Told calls answers l (i p) p (c p)) → span r.joining c 1 20 ≡ sight.cost
 
   -- Where a search stands after so many steps answered and asked for: each step has moved the cursor on by one or more, there were fewer
-  -- steps than scenarios, and it has finished once that many were asked for. The steps are those that follow from the script.
+  -- steps than scenarios, and it has finished once one fewer than there are scenarios were asked for. The steps are those that follow from
+  -- the script.
   pub record Going (steps asked : ℕ) (n : ℕ) (s : Position) (counted wants : ℕ) : Type 0 where
     pub moved : steps + 1 ≤ s.cursor
     pub bounded : steps ≤ total r n - 1

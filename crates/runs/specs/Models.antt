@@ -22,6 +22,7 @@ abbrev pub verdict : {A : Type 0} → Option Fault → A → (Fault → A) → A
 verdict None good bad = good
 verdict (Some f) good bad = bad f
 
+-- good where all checks pass, else bad with the fault of the first that fails
 abbrev pub by_checks : {A : Type 0} → List Check → A → (Fault → A) → A
 by_checks checks good bad = verdict (first_fault checks) good bad
 

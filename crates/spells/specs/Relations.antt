@@ -29,9 +29,11 @@ Holds FinishedBy u v = (u.start < v.start) × (v.end ≡ u.end)
 abbrev pub relations : List Relation
 relations = Equals ∷ Before ∷ After ∷ Meets ∷ MetBy ∷ Overlaps ∷ OverlappedBy ∷ Starts ∷ StartedBy ∷ During ∷ Contains ∷ Finishes ∷ FinishedBy ∷ []
 
+-- the relation with this code
 abbrev pub coded : ℕ → Relation
 coded c = slice_index_or relations c Equals
 
+-- the code of a relation
 abbrev pub code : Relation → ℕ
 code Equals = 0
 code Before = 1
@@ -64,6 +66,7 @@ by_ends Ordering.gt Ordering.gt es Ordering.gt = After
 by_ends Ordering.gt Ordering.eq es Ordering.gt = MetBy
 by_ends Ordering.gt Ordering.lt es Ordering.gt = OverlappedBy
 
+-- the relation that holds of two spells, by how their ends compare
 abbrev pub related : Spell → Spell → Relation
 related u v = by_ends (compare u.start v.start) (compare u.start v.end) (compare u.end v.start) (compare u.end v.end)
 

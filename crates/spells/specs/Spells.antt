@@ -6,6 +6,7 @@ use Rattle.kinds.specs.Layouts.{Layout, rank_on}
 use Rattle.spells.specs.declared.spell.Spell.{Spell}
 use Rattle.spells.specs.Relations.{Lawful, Holds, relations, coded, code, related, Ends, ends}
 
+-- Allen's interval algebra: spells of at least one unit
 abbrev pub spells : Meaning Spell
 spells = record {
   codes = 13;
@@ -22,10 +23,11 @@ pick q zero (suc t) = q.1
 pick q (suc s) zero = q.2
 pick q (suc s) (suc t) = q.3
 
--- a number that is no code says nothing of the ends
+-- under a number that is no code all ends are level
 abbrev pub level : Ends
 level = (Ordering.eq, Ordering.eq, Ordering.eq, Ordering.eq)
 
+-- how mark s of the first spell stands to mark t of the second under a code
 abbrev pub side : ℕ → ℕ → ℕ → Ordering
 side c s t = pick (slice_index_or (map ends relations) c level) s t
 

@@ -77,7 +77,13 @@ impl Notation for Spells {
 
     ghost words = { spell_words };
 
+    ghost worded = { refl };
+
+    ghost written = { refl };
+
     ghost unambiguous = { Worded.unambiguous spell_words tt };
+
+    ghost named = { Worded.named spell_words (Worded.unambiguous spell_words tt) };
 
     fn letter() -> u8 {
         b'S'

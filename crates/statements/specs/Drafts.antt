@@ -22,7 +22,7 @@ ByChecks checks (Err f) P U = (first_fault checks ≡ Some f) × U
 abbrev pub size_checks : ℕ → List Check
 size_checks n = (between 1 12 n, Size) ∷ []
 
--- The set of the converses of the codes below b that are in a set.
+-- The set of the converses of the codes below b that are in a set; a converse of 64 or more, which no lawful kind has, is left out.
 abbrev pub converses : (ℕ → ℕ) → ℕ → ℕ → ℕ
 converses conv zero s = 0
 converses conv (suc c) s = cond (has s c && nat_lt (conv c) 64) (bit_or (converses conv c s) (2 ^ conv c)) (converses conv c s)
@@ -63,6 +63,7 @@ Means {V = V} m items e row = (x : ℕ → V) → Assignment m items x
 abbrev pub numbered : List Row → ℕ → Row
 numbered rows i = slice_index_or rows (i - 1) no_row
 
+-- a statement has this number, counted from 1
 abbrev pub is_there : List Row → ℕ → Bool
 is_there rows i = between 1 (length rows) i
 

@@ -3,6 +3,7 @@ use Rattle.std.specs.Prelude.{ℕ, Bool, cond, List, [], ◌∷◌, Some, None, 
 use Rattle.statements.specs.declared.fault.Fault.{Fault}
 use Rattle.statements.specs.declared.fault.Fault.TheVariants.{Size, Item, Same, Code, Weight, Person, Full, Missing, Struck, Steps, Short, Memory}
 
+-- the number by which a refusal is printed
 abbrev pub number : Fault → ℕ
 number Size = 1
 number Item = 2

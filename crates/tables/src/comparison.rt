@@ -106,7 +106,7 @@ impl Comparison {
 
     /// The line of the table; how many entries differ. An error where a relation was not met.
     fn close<K: Kind + Notation>(self, rt: HostRuntime, table: &str) -> anyhow::Result<u32>
-        ensures { IsOk result → Whole K.Kind.meaning self.met }
+        ensures { IfOk result (λ lacking. (lacking ≡ self.score.lacking) × Whole K.Kind.meaning self.met) }
     {
         if self.met != whole::<K>() {
             return Err(anyhow!("a published table leaves out a relation"));

@@ -47,7 +47,7 @@ pub record Ranking {P C : Type 0} (j : Joining P C) (at_most : C → C → Bool)
   -- Two costs that are at most each other are one cost: different costs never tie.
   pub antisymmetric : (xs ys : List P) → length xs ≤ most_penalties → length ys ≤ most_penalties
       → at_most (joined j xs) (joined j ys) ≡ true → at_most (joined j ys) (joined j xs) ≡ true → joined j xs ≡ joined j ys
-  -- Joining the same cost to two costs keeps their order.
+  -- Joining the same cost to two costs keeps which is at most the other; different costs may become one.
   pub monotone : (xs ys zs : List P) → length xs + length zs ≤ most_penalties → length ys + length zs ≤ most_penalties
       → at_most (joined j xs) (joined j ys) ≡ true
       → at_most (j.join (joined j xs) (joined j zs)) (j.join (joined j ys) (joined j zs)) ≡ true

@@ -2,6 +2,7 @@
 use Rattle.std.proofs.Common.{rules}
 use Rattle.rules.specs.Soundness.{rules as rules_of}
 use Rattle.rules.proofs.Orders.{in_order}
+use Rattle.rules.proofs.Cursors.{numbers, skips}
 use Rattle.rules.proofs.Costs.{pairs_join, charges_join}
 use Rattle.rules.proofs.Floors.{bound_below, bound_least}
 use Rattle.rules.proofs.Advances.{in_parts}
@@ -23,4 +24,6 @@ returns g c =
       pairs = pairs_join j monoid;
       charges = charges_join j monoid;
       order = in_order;
+      numbers = numbers;
+      skips = skips;
     }
