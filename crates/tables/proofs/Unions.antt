@@ -1,5 +1,5 @@
 -- Sets of one base relation, and unions of sets of base relations, as bits.
-use Rattle.std.proofs.Common.{◌≡◌, ℕ, ◌^◌, ◌<◌, ◌≤◌, true, Decides, Option, Bor, List, [], map, ◌∷◌, ◌++◌, sym, refl, ◌∙◌, subst, inl, inr, arith, zero-add}
+use Rattle.std.proofs.Common.{◌≡◌, ℕ, ◌^◌, ◌<◌, ◌≤◌, true, Decides, Option, None, Some, MatchOption, Bor, List, [], map, ◌∷◌, ◌++◌, sym, refl, ◌∙◌, subst, inl, inr, arith, zero-add}
 use Rattle.std.specs.List.{All, Contains, FoldsTo, range_with_len}
 use Rattle.std.proofs.lemmas.List.{map-append}
 use Rattle.std.specs.Iterator.{Drains}
@@ -51,6 +51,19 @@ over_more {A} Gives items set n more old new = (forth, back)
       | inl before ↦ (let (given, gives, within) = old.1 c before in (given, gives, wider given within))
       | inr same ↦ here c same
     ]
+
+-- the union of sets that are given otherwise too
+pub over_weaker : {A : Type 0} (Gives Gives' : A → ℕ → Type 0) → ((x : A) (given : ℕ) → Gives x given → Gives' x given) → (items : List A) (set : ℕ) →
+    UnionOf Gives items set → UnionOf Gives' items set
+over_weaker Gives Gives' so items set u = (
+  λ e p. let (x, i, given, gives, h) = u.0 e p in (x, i, given, so x given gives, h),
+  λ x i. let (given, gives, within) = u.1 x i in (given, so x given gives, within),
+)
+
+-- what an option says, said otherwise
+pub option_weaker : {A : Type 0} {N N' : Type 0} {P P' : A → Type 0} → (r : Option A) → (N → N') → ((x : A) → P x → P' x) → MatchOption r N P → MatchOption r N' P'
+option_weaker None n p h = n h
+option_weaker (Some x) n p h = p x h
 
 -- the same, where the items are what references point to
 pub over_push : {A : Type 0} (Gives : A → ℕ → Type 0) (items : List (Bor A)) (set : ℕ) (x : Bor A) (more : ℕ) → UnionOf Gives (map (λ y. y.now) items) set →
