@@ -52,6 +52,13 @@ over_more {A} Gives items set n more old new = (forth, back)
       | inr same ↦ here c same
     ]
 
+-- the same, where the items are what references point to
+pub over_push : {A : Type 0} (Gives : A → ℕ → Type 0) (items : List (Bor A)) (set : ℕ) (x : Bor A) (more : ℕ) → UnionOf Gives (map (λ y. y.now) items) set →
+    Gives x.now more → UnionOf Gives (map (λ y. y.now) (items ++ x ∷ [])) (bit_or set more)
+over_push Gives items set x more old new =
+    subst (λ xs. UnionOf Gives xs (bit_or set more)) (sym (map-append (λ y. y.now) items (x ∷ [])))
+    (over_more Gives (map (λ y. y.now) items) set x.now more old new)
+
 -- the union of sets that are given otherwise too
 pub over_weaker : {A : Type 0} (Gives Gives' : A → ℕ → Type 0) → ((x : A) (given : ℕ) → Gives x given → Gives' x given) → (items : List A) (set : ℕ) →
     UnionOf Gives items set → UnionOf Gives' items set
@@ -64,13 +71,6 @@ over_weaker Gives Gives' so items set u = (
 pub option_weaker : {A : Type 0} {N N' : Type 0} {P P' : A → Type 0} → (r : Option A) → (N → N') → ((x : A) → P x → P' x) → MatchOption r N P → MatchOption r N' P'
 option_weaker None n p h = n h
 option_weaker (Some x) n p h = p x h
-
--- the same, where the items are what references point to
-pub over_push : {A : Type 0} (Gives : A → ℕ → Type 0) (items : List (Bor A)) (set : ℕ) (x : Bor A) (more : ℕ) → UnionOf Gives (map (λ y. y.now) items) set →
-    Gives x.now more → UnionOf Gives (map (λ y. y.now) (items ++ x ∷ [])) (bit_or set more)
-over_push Gives items set x more old new =
-    subst (λ xs. UnionOf Gives xs (bit_or set more)) (sym (map-append (λ y. y.now) items (x ∷ [])))
-    (over_more Gives (map (λ y. y.now) items) set x.now more old new)
 
 -- a fold whose closure unites what it has with a set that is given at the item
 pub over_fold : {S F : Type 0} {steps : S → Option ℕ → S → Type 0} {g : Mut F (ℕ × (ℕ × Unit {0})) ℕ} {f : F} {s : S} {r : ℕ} →
