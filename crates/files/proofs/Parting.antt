@@ -1,7 +1,8 @@
 -- A text that is cut at the first place of a byte.
-use Rattle.std.proofs.Common.{◌≡◌, ℕ, suc, ◌+◌, ◌<◌, ◌≤◌, false, eqb, List, [], ◌∷◌, ◌++◌, length, Some, None, Option, sym, refl, ap, ◌∙◌, arith, Bor, All, count_by, false-eqb}
+use Rattle.std.proofs.Common.{◌≡◌, ◌≢◌, ℕ, zero, suc, ◌+◌, ◌-◌, ◌<◌, ◌≤◌, false, eqb, List, [], ◌∷◌, ◌++◌, length, get_or, take, drop, Some, None, Option, sym, refl, ap, ◌∙◌, arith, take-append-drop, Bor, All, count_by, false-eqb}
 use Rattle.std.specs.Option.{unwrap_or}
 use Rattle.std.specs.List.{onto_first, join_with_byte, AllByRecursion}
+use Rattle.std.proofs.lemmas.List.{drop_more, take_rest}
 use Rattle.std.proofs.lemmas.List.Elements.{All-from_recursion, All-weaker}
 use Rattle.std.proofs.lemmas.List.Splits.{join_with_byte-slice_split, length-slice_split, slice_split_at, slice_split_none}
 use Rattle.std.proofs.lemmas.Bool.{eq-eqb, ne_eqb, cond-false, cond_both}
@@ -12,6 +13,23 @@ Cut c text front rest = Lacks c front × (text ≡ front ++ (c ∷ rest))
 
 abbrev pub Whole : ℕ → List ℕ → List ℕ → Type 0
 Whole c text front = Lacks c text × (text ≡ front)
+
+pub lacks_all : (c : ℕ) (bs : List ℕ) → ((k : ℕ) → k < length bs → get_or bs k 0 ≢ c) → Lacks c bs
+lacks_all c [] h = tt
+lacks_all c (b ∷ bs) h = (h 0 (omega arith), lacks_all c bs (λ k l. h (suc k) (omega arith)))
+
+lacks_front : (c : ℕ) (bs : List ℕ) (n : ℕ) → n ≤ length bs → ((k : ℕ) → k < n → get_or bs k 0 ≢ c) → Lacks c (take n bs)
+lacks_front c bs zero h l = tt
+lacks_front c [] (suc n) h l = tt
+lacks_front c (b ∷ bs) (suc n) h l = (l 0 (omega arith), lacks_front c bs n (omega arith) (λ k lt. l (suc k) (omega arith)))
+
+-- a text at the place n of its first c, as `&text[..n]` and `&text[n + 1..]` are read
+pub cut_at : (c : ℕ) (bs : List ℕ) (n : ℕ) → n < length bs → ((k : ℕ) → k < n → get_or bs k 0 ≢ c) → get_or bs n 0 ≡ c
+    → Cut c bs (take n bs) (take (length bs - (n + 1)) (drop (n + 1) bs))
+cut_at c bs n h l e = rw (take_rest bs (n + 1)) (
+  lacks_front c bs n (omega arith) l,
+  sym (take-append-drop n bs) ∙ ap (λ r. take n bs ++ r) (drop_more bs n 0 h ∙ ap (λ b. b ∷ drop (n + 1) bs) e),
+)
 
 -- no byte of the text is c
 none_is : (c : ℕ) (bs : List ℕ) → Lacks c bs → All (λ b. eqb b c ≡ false) bs

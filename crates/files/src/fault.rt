@@ -68,7 +68,8 @@ pub struct Place {
     pub line: u32,
 }
 
-/// Why a file is refused: the fault of a line, and the place of the line.
+/// Why a file is refused: the fault of a line, and the place of the line. It has the fields of `At<Place, LineFault>`, and is a type of
+/// its own since definitions, also of crates that use this one, name it.
 #[derive(Clone, Copy, PartialEq, Eq)]
 pub struct SheetFault {
     pub place: Place,

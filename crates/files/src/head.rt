@@ -53,26 +53,34 @@ impl Model for Head {
 /// The most bytes of a line.
 pub const LONGEST: usize = 80;
 
-// The kind of a letter.
-fn kind_named(field: &[u8]) -> Result<HeadKind, FieldFault>
-    ensures { result ≡ given (is_kind (letter field.now)) (kind_of (letter field.now)) Unfit }
-{
-    match field {
-        [b'M'] => Ok(HeadKind::Moments),
-        [b'S'] => Ok(HeadKind::Spells),
-        [b'D'] => Ok(HeadKind::Dwellings),
-        _ => Err(FieldFault::Unknown),
+/// The kind that a field names by its letter.
+impl TryFrom<&[u8]> for HeadKind {
+    type Error = FieldFault;
+
+    ghost try_from_gives = { λ field r. r ≡ given (is_kind (letter field.now)) (kind_of (letter field.now)) Unfit };
+
+    fn try_from(field: &[u8]) -> Result<HeadKind, FieldFault> {
+        match field {
+            [b'M'] => Ok(HeadKind::Moments),
+            [b'S'] => Ok(HeadKind::Spells),
+            [b'D'] => Ok(HeadKind::Dwellings),
+            _ => Err(FieldFault::Unknown),
+        }
     }
 }
 
-// The tally of a letter.
-fn tally_named(field: &[u8]) -> Result<HeadTally, FieldFault>
-    ensures { result ≡ given (is_tally (letter field.now)) (tally_of (letter field.now)) Unfit }
-{
-    match field {
-        [b'w'] => Ok(HeadTally::ByWeight),
-        [b'r'] => Ok(HeadTally::SwornFirst),
-        _ => Err(FieldFault::Unknown),
+/// The tally that a field names by its letter.
+impl TryFrom<&[u8]> for HeadTally {
+    type Error = FieldFault;
+
+    ghost try_from_gives = { λ field r. r ≡ given (is_tally (letter field.now)) (tally_of (letter field.now)) Unfit };
+
+    fn try_from(field: &[u8]) -> Result<HeadTally, FieldFault> {
+        match field {
+            [b'w'] => Ok(HeadTally::ByWeight),
+            [b'r'] => Ok(HeadTally::SwornFirst),
+            _ => Err(FieldFault::Unknown),
+        }
     }
 }
 
@@ -125,9 +133,9 @@ pub fn parse_head(line: &[u8]) -> Result<Head, LineFault>
     ) else {
         return Err(LineFault::FieldCount);
     };
-    let kind = placed(1, kind_named(kind))?;
+    let kind = placed(1, HeadKind::try_from(kind))?;
     let size = placed(2, number(size))?;
-    let tally = placed(3, tally_named(tally))?;
+    let tally = placed(3, HeadTally::try_from(tally))?;
     let size = placed(2, checked_size(size))?;
     Ok(Head { kind, size, tally })
 }

@@ -1,10 +1,11 @@
 // Parts of a text between single bytes.
-ghost use Rattle.std.specs.Prelude.{◌≡◌, ℕ, ◌+◌, ◌<◌, ◌≤◌, length, ◌≢◌, ◌==◌, slice_index, count_by, All};
+ghost use Rattle.std.specs.Prelude.{◌≡◌, ◌+◌, length, ◌==◌, count_by, All};
 ghost use Rattle.std.specs.Iterator.{YieldsFirstRef, item_count};
 ghost use Rattle.std.specs.List.{join_with_byte};
 ghost use Rattle.files.specs.Parts.{parted, lines, left, Lacks, Split, GivesLine};
 
-/// Gives the parts of a text between the bytes `by`, one after another.
+/// Gives the parts of a text between the bytes `by`, one after another. The library's `split` tells how many parts there are and that
+/// none has the byte, but that the parts joined are the text only one step at a time; `Parts::new` promises it of all that are left.
 #[derive(Drop)]
 pub struct Parts<'a> {
     by: u8,
@@ -17,24 +18,13 @@ pub struct Lines<'a> {
     rest: &'a [u8],
 }
 
-/// Where the byte first stands in the text, or the text's length.
-pub fn first_place(text: &[u8], b: u8) -> usize
-    ensures within { result ≤ length text.now }
-    ensures before { (k : ℕ) → k < result → slice_index text.now k ≢ b }
-    ensures found { result < length text.now → slice_index text.now result ≡ b }
-{
-    text.iter().position(|x| *x == b).unwrap_or(text.len())
-}
-
 /// What stands before the first byte `by`, and what after it; the whole text where there is none.
 pub fn split_once<'a>(text: &'a [u8], by: u8) -> (&'a [u8], Option<&'a [u8]>)
     ensures { Split by text.now result.0.now result.1 }
 {
-    let n = first_place(text, by);
-    if n < text.len() {
-        (&text[..n], Some(&text[n + 1..]))
-    } else {
-        (text, None)
+    match text.iter().position(|x| *x == by) {
+        Some(i) => (&text[..i], Some(&text[i + 1..])),
+        None => (text, None),
     }
 }
 

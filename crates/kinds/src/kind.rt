@@ -57,6 +57,7 @@ pub trait Kind {
     {
         for (i, place) in page.iter_mut().enumerate() {
             if i < usize::from(items) {
+                // The cast keeps i, which is below the number of items.
                 *place = Self::value(items, scenario, i as u8);
             }
         }

@@ -37,7 +37,7 @@ impl<const MARKS: usize> Axis<MARKS> {
             before: 0,
             after: 0,
         };
-        // A match, since in code over a const parameter a proof cannot see what a closure answers.
+        // A match, since in code over a const parameter nothing is known in a proof of what a closure answers.
         match self.orders.get(s) {
             Some(row) => row.get(t).copied().unwrap_or(none),
             None => none,
@@ -70,8 +70,8 @@ impl<const MARKS: usize> Axis<MARKS> {
         }
     }
 
-    // How many marks of item k stand before mark y in the scenario. In code over a const parameter a proof cannot see what a closure
-    // answers, so it is counted in a loop.
+    // How many marks of item k stand before mark y in the scenario. It is counted in a loop, since in code over a const parameter
+    // nothing is known in a proof of what a closure answers.
     fn preceding(&self, scenario: &[u8], k: u8, y: Mark) -> u32
         ensures is { result ≡ count_by (λ x. is_lt (stands (in_scenario (drawn self.now.orders) scenario.now) x y)) (of_item k MARKS []) }
         ensures few { result ≤ 255 }

@@ -6,7 +6,7 @@ ghost use Rattle.points.specs.Scenarios.{pairs as pairs_of, place as place_of, e
 pub fn pairs(n: u8) -> usize
     ensures { result ≡ pairs_of n }
 {
-    let n = n as usize;
+    let n = usize::from(n);
     n * n.saturating_sub(1) / 2
 }
 
@@ -14,7 +14,7 @@ pub fn pairs(n: u8) -> usize
 pub fn place(i: u8, j: u8) -> usize
     ensures { result ≡ place_of i j }
 {
-    pairs(j) + i as usize
+    pairs(j) + usize::from(i)
 }
 
 /// The code of the pair of i and j, i < j, or 0 where the scenario is too short to have one.

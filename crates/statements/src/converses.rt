@@ -9,7 +9,7 @@ use points::set::contains;
 pub fn converses<K: Kind>(set: u64) -> u64
     ensures { result ≡ converses_of K.Kind.meaning.converse K.Kind.meaning.codes set }
 {
-    // A loop over the codes, as the definition counts them: each code is a number, and its converse goes into the set if it is below 64.
+    // The converse of each code that is in the set goes into the answer, if it is below 64.
     let mut turned: u64 = 0;
     for code in 0..K::count() {
         let converse = K::converse(code);

@@ -29,7 +29,7 @@ impl Entry {
         ensures means { IfOk result (Means K.Kind.meaning items self.now) }
         ensures row { ByChecks (entry_checks K.Kind.meaning.codes items self.now) result (λ row. (row ≡ row_of K.Kind.meaning.converse K.Kind.meaning.codes self.now) × (row_proper items row ≡ true)) (Unit {0}) }
     {
-        self.check::<K>(items as u32)?;
+        self.check::<K>(u32::from(items))?;
         Ok(self.kept::<K>())
     }
 

@@ -1,5 +1,5 @@
 -- Sets of one base relation, and unions of sets of base relations, as bits.
-use Rattle.std.proofs.Common.{◌≡◌, ℕ, ◌^◌, ◌<◌, ◌≤◌, true, Decides, Option, Bor, List, [], map, ◌∷◌, ◌++◌, sym, refl, ◌∙◌, subst, inl, inr, arith, zero-add}
+use Rattle.std.proofs.Common.{◌≡◌, ℕ, ◌^◌, ◌<◌, ◌≤◌, true, Decides, Option, None, Some, MatchOption, Bor, List, [], map, ◌∷◌, ◌++◌, sym, refl, ◌∙◌, subst, inl, inr, arith, zero-add}
 use Rattle.std.specs.List.{All, Contains, FoldsTo, range_with_len}
 use Rattle.std.proofs.lemmas.List.{map-append}
 use Rattle.std.specs.Iterator.{Drains}
@@ -58,6 +58,19 @@ pub over_push : {A : Type 0} (Gives : A → ℕ → Type 0) (items : List (Bor A
 over_push Gives items set x more old new =
     subst (λ xs. UnionOf Gives xs (bit_or set more)) (sym (map-append (λ y. y.now) items (x ∷ [])))
     (over_more Gives (map (λ y. y.now) items) set x.now more old new)
+
+-- the union of sets that are given otherwise too
+pub over_weaker : {A : Type 0} (Gives Gives' : A → ℕ → Type 0) → ((x : A) (given : ℕ) → Gives x given → Gives' x given) → (items : List A) (set : ℕ) →
+    UnionOf Gives items set → UnionOf Gives' items set
+over_weaker Gives Gives' so items set u = (
+  λ e p. let (x, i, given, gives, h) = u.0 e p in (x, i, given, so x given gives, h),
+  λ x i. let (given, gives, within) = u.1 x i in (given, so x given gives, within),
+)
+
+-- what an option says, said otherwise
+pub option_weaker : {A : Type 0} {N N' : Type 0} {P P' : A → Type 0} → (r : Option A) → (N → N') → ((x : A) → P x → P' x) → MatchOption r N P → MatchOption r N' P'
+option_weaker None n p h = n h
+option_weaker (Some x) n p h = p x h
 
 -- a fold whose closure unites what it has with a set that is given at the item
 pub over_fold : {S F : Type 0} {steps : S → Option ℕ → S → Type 0} {g : Mut F (ℕ × (ℕ × Unit {0})) ℕ} {f : F} {s : S} {r : ℕ} →

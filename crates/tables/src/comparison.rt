@@ -1,6 +1,7 @@
 // Published tables, held against ours.
-ghost use Rattle.std.specs.Prelude.{◌≡◌, ℕ, ◌==◌, length, IfOk, IsErr, IsOk};
-ghost use Rattle.tables.specs.Relations.{Whole};
+ghost use Rattle.std.specs.Prelude.{◌≡◌, ℕ, ◌==◌, bit_or, length, IfOk, IsErr, IsOk, MatchOption};
+ghost use Rattle.tables.specs.Letters.{meant_code};
+ghost use Rattle.tables.specs.Relations.{Single, Whole};
 ghost use Rattle.tables.specs.Scores.{score_after};
 
 use crate::algebra::{single, whole};
@@ -45,6 +46,16 @@ struct Comparison {
 }
 
 impl Comparison {
+    /// The code of the base relation that a letter stands for, which is met with it. An error where it stands for no single one.
+    fn meet<K: Notation>(&mut self, letters: Letters, letter: &str) -> anyhow::Result<u8>
+        ensures read { MatchOption (meant_code K.words letters.entry.0.now letter.now) (IsErr result) (λ code. result ≡ Ok code) }
+        ensures met { IfOk result (λ code. (one : ℕ) × Single code one × (self.new ≡ record self.old { met = bit_or self.old.met one })) }
+    {
+        let code = letters.read::<K>(letter)?;
+        self.met |= single(code);
+        Ok(code)
+    }
+
     /// Counts in an entry of the table, and prints it where it is not ours.
     fn hold<K: Notation>(
         &mut self,
@@ -129,8 +140,7 @@ fn hold_converses<K: Kind + Notation>(
 ) -> anyhow::Result<u32> {
     let mut comparison = Comparison::default();
     for Turned(relation, converse) in pairs {
-        let r = letters.read::<K>(relation)?;
-        comparison.met |= single(r);
+        let r = comparison.meet::<K>(letters, relation)?;
         let ours = single(K::converse(r));
         comparison.hold::<K>(rt, (r, r), ours, letters.set::<K>(converse))?;
     }
@@ -148,8 +158,7 @@ fn hold_compositions<K: Kind + Notation>(
         ..Comparison::default()
     };
     for row in table.rows {
-        let r = table.letters.read::<K>(row.letter)?;
-        comparison.met |= single(r);
+        let r = comparison.meet::<K>(table.letters, row.letter)?;
         comparison.hold_row::<K>(rt, table, r, row.entries)?;
     }
     comparison.close::<K>(rt, "composition")
@@ -164,8 +173,7 @@ fn hold_identity(rt: HostRuntime, table: Table, identity: u8) -> anyhow::Result<
     let itself = table.letters.set::<Spells>(ALLEN_IDENTITY);
     comparison.hold_composition::<Spells>(rt, (identity, identity), itself)?;
     for row in table.rows {
-        let r = table.letters.read::<Spells>(row.letter)?;
-        comparison.met |= single(r);
+        let r = comparison.meet::<Spells>(table.letters, row.letter)?;
         let itself = table.letters.set::<Spells>(row.letter);
         comparison.hold_composition::<Spells>(rt, (identity, r), itself)?;
         comparison.hold_composition::<Spells>(rt, (r, identity), itself)?;
@@ -197,8 +205,7 @@ fn composed_directions(
 fn hold_directions(rt: HostRuntime, letters: Letters, points: Table) -> anyhow::Result<u32> {
     let mut comparison = Comparison::default();
     for first in &DIRECTIONS {
-        let r = letters.read::<Dwellings>(first.letter)?;
-        comparison.met |= single(r);
+        let r = comparison.meet::<Dwellings>(letters, first.letter)?;
         for second in &DIRECTIONS {
             let s = letters.read::<Dwellings>(second.letter)?;
             let published = composed_directions(letters, points, first, second);

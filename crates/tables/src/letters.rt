@@ -1,6 +1,9 @@
-// The letters of the literature, read as base relations. The loops over the parts of a text end at one that cannot be read.
+// The letters of the literature, read as base relations.
 ghost use Rattle.std.specs.Prelude.{◌≡◌, IsErr, MatchOption, option_copied};
-ghost use Rattle.tables.specs.Letters.{Entered, Named, Unnamed, Unread, meant, meant_code};
+ghost use Rattle.std.specs.Fn.{FnReturnsAt};
+ghost use Rattle.kinds.specs.Words.{read};
+ghost use Rattle.tables.specs.Letters.{Entered, Named, PartNamed, PartUnread, SomePart, Unnamed, Unread, WordNamed, meant, meant_code, parts};
+ghost use Rattle.tables.specs.Relations.{UnionOf};
 
 use crate::algebra::single;
 use crate::published::Letter;
@@ -44,11 +47,12 @@ impl Letters<'_> {
         if let Some(words) = self.meant(entry) {
             return named::<K>(words);
         }
-        let mut set = 0;
-        for letter in entry.split(' ') {
-            set |= named::<K>(self.meant(letter)?)?;
-        }
-        Some(set)
+        union_of(
+            entry,
+            |letter|
+                ensures { MatchOption result (PartUnread K.words self.entry.0.now letter.now) (λ set. PartNamed K.words self.entry.0.now letter.now set) }
+            { named::<K>(self.meant(letter)?) },
+        )
     }
 }
 
@@ -56,9 +60,22 @@ impl Letters<'_> {
 fn named<K: Notation>(words: &str) -> Option<u64>
     ensures { MatchOption result (Unnamed K.words words.now) (λ set. Named K.words words.now set) }
 {
+    union_of(
+        words,
+        |word|
+            ensures { MatchOption result (read K.words word.now ≡ None) (λ one. WordNamed K.words word.now one) }
+        { Some(single(K::code(word.as_bytes())?)) },
+    )
+}
+
+/// The union of the sets that a function gives at the parts of a text between its spaces, or none where it gives none at one of them.
+fn union_of<F: Fn(&str) -> Option<u64>>(text: &str, gives: F) -> Option<u64>
+    requires { F.IsAlwaysCallable gives }
+    ensures { MatchOption result (SomePart text.now (λ part. FnReturnsAt F.Fn gives part None)) (λ set. UnionOf (λ part given. FnReturnsAt F.Fn gives part (Some given)) (parts text.now) set) }
+{
     let mut set = 0;
-    for word in words.split(' ') {
-        set |= single(K::code(word.as_bytes())?);
+    for part in text.split(' ') {
+        set |= gives(part)?;
     }
     Some(set)
 }
