@@ -5,12 +5,12 @@ use Rattle.points.proofs.Placed.{pairs_up}
 use Rattle.rules.specs.Steps.{some}
 use Rattle.search.specs.Closed.{rules_of}
 use Rattle.search.proofs.Prefixes.{parts_some, unfit_closed}
-use Rattle.search.proofs.table.Tables.closes_misfit.Goals as goal
+use Rattle.search.proofs.prefix.Prefixes.closes_misfit.Goals as goal
 
 pub overflow_add-first : goal.overflow_add-first
 overflow_add-first g c =
     let up = pairs_up c.sides-low.result.0 c.sides-low.result.1 c.sides-low.ensures.rising in
-    omega (arith, c.args.self.now.sheet.now.fits, c.requires.within, c.sides-low.ensures.placed, up, c.pairs-first.ensures, c.pairs-third.ensures)
+    omega (arith, c.args.self.now.tables.now.sheet.now.fits, c.requires.within, c.sides-low.ensures.placed, up, c.pairs-first.ensures, c.pairs-third.ensures)
 
 pub slice_bounds-misfits-end : goal.slice_bounds-misfits-end
 slice_bounds-misfits-end g c =
@@ -19,8 +19,8 @@ slice_bounds-misfits-end g c =
 
 pub returns : goal.returns
 returns g c =
-    let sheet = c.args.self.now.sheet.now in
-    let a : List ℕ = c.args.cursor.now in
+    let sheet = c.args.self.now.tables.now.sheet.now in
+    let a : List ℕ = c.args.self.now.cursor.now in
     let fit : ℕ → ℕ → ℕ → Bool = g.K.Kind.fit in
     let low : ℕ = c.sides-low.result.0 in
     let high : ℕ = c.sides-low.result.1 in
