@@ -119,7 +119,7 @@ impl<'a, T: Tally> Prefixes<'a, T> {
         ensures { unfit (rules_of self.now.tables.now.sheet.now K.Kind.fit T.Joins.joining T.Tally.order) self.now.tables.now.sheet.now.items spot self.now.cursor.now ≡ false → unfit (rules_of self.now.tables.now.sheet.now K.Kind.fit T.Joins.joining T.Tally.order) self.now.tables.now.sheet.now.items (spot + 1) self.now.cursor.now ≡ result }
     {
         let (low, high) = sides(spot);
-        let count = low as usize;
+        let count = usize::from(low);
         let (first, third) = (pairs(low), pairs(high));
         misfits::<K>(
             &self.cursor[first..first + count],
@@ -139,7 +139,7 @@ impl<'a, T: Tally> Prefixes<'a, T> {
             return T::empty();
         }
         let last = length - 1;
-        T::join(spent[last], self.tables.prices[last * 64 + self.cursor[last] as usize])
+        T::join(spent[last], self.tables.prices[last * 64 + usize::from(self.cursor[last])])
     }
 
     // Whether the prefix of so many codes is refuted, where no shorter one is.

@@ -31,7 +31,7 @@ impl Sheet {
     {
         // A loop over the codes: the code is the place in the table, and the price is asked by it.
         for code in 0..self.codes {
-            prices[code as usize] = self.pair_price::<T>(spot, code);
+            prices[usize::from(code)] = self.pair_price::<T>(spot, code);
         }
     }
 
@@ -47,7 +47,7 @@ impl Sheet {
         for spot in (0..count).rev() {
             let prices = &mut prices[spot * 64..spot * 64 + 64];
             self.price_pair::<T>(spot, prices);
-            let bound = least::<T, _>(self.codes, |code| prices[code as usize]);
+            let bound = least::<T, _>(self.codes, |code| prices[usize::from(code)]);
             owed[spot] = T::join(bound, owed[spot + 1]);
         }
     }

@@ -1,5 +1,5 @@
 -- The triples that a pair closes, as the three parts of the scenario have them.
-use Rattle.std.proofs.Common.{ℕ, ◌+◌, ◌≤◌, Bool, not, List, get_or, ap, ◌∙◌, arith}
+use Rattle.std.proofs.Common.{◌≡◌, ℕ, ◌+◌, ◌≤◌, Bool, not, List, get_or, ap, ◌∙◌, arith}
 use Rattle.points.specs.Scenarios.{pairs}
 use Rattle.points.proofs.Placed.{pairs_up}
 use Rattle.rules.specs.Steps.{some}
@@ -28,9 +28,11 @@ returns g c =
     let rising = c.sides-low.ensures.rising in
     let up : pairs low + low ≤ pairs high = pairs_up low high rising in
     let test : ℕ → ℕ → Bool = λ x y. not (fit x (get_or a c.args.spot 0) y) in
-    let parts = parts_some test a c.pairs-first.result c.pairs-third.result low
-    (omega (arith, c.requires, placed, up, c.pairs-first.ensures)) (omega (arith, c.requires, placed, c.pairs-third.ensures)) in
+    let count : c.from-count.result ≡ c.sides-low.result.0 = c.from-count.ensures in
+    let parts = parts_some test a c.pairs-first.result c.pairs-third.result c.from-count.result
+    (omega (arith, c.requires, placed, up, count, c.pairs-first.ensures)) (omega (arith, c.requires, placed, count, c.pairs-third.ensures)) in
     unfit_closed (rules_of sheet fit g.T.Joins.joining g.T.Tally.order) sheet.items c.args.spot low high a c.misfits.result placed rising c.requires.within
     (c.misfits.ensures ∙ parts
+    ∙ ap (λ (z : ℕ). some z (λ i. test (get_or a (c.pairs-first.result + i) 0) (get_or a (c.pairs-third.result + i) 0))) count
     ∙ ap (λ (z : ℕ). some low (λ i. test (get_or a (z + i) 0) (get_or a (c.pairs-third.result + i) 0))) c.pairs-first.ensures
     ∙ ap (λ (z : ℕ). some low (λ i. test (get_or a (pairs low + i) 0) (get_or a (z + i) 0))) c.pairs-third.ensures)
