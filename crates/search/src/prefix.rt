@@ -139,7 +139,8 @@ impl<'a, T: Tally> Prefixes<'a, T> {
             return T::empty();
         }
         let last = length - 1;
-        T::join(spent[last], self.tables.prices[last * 64 + usize::from(self.cursor[last])])
+        let code = usize::from(self.cursor[last]);
+        T::join(spent[last], self.tables.prices[last * 64 + code])
     }
 
     // Whether the prefix of so many codes is refuted, where no shorter one is.

@@ -29,7 +29,9 @@ impl Sheet {
         requires { self.now.codes ≤ length prices.old }
         ensures { (c : ℕ) → c < self.now.codes → slice_index_or prices.new c T.Joins.joining.empty ≡ pair_cost T.Joins.joining (rows_of self.now) spot c }
     {
-        // A loop over the codes: the code is the place in the table, and the price is asked by it.
+        // A loop over the codes. `for (price, code) in prices.iter_mut().zip(0..self.codes)` was tried, and its proof did not close: after
+        // a loop that an adapter like `zip` runs, a proof knows the length of a slice that was written by `iter_mut`, and none of its items.
+        // With `enumerate` it knows the items, but the place is then a `usize` that has to be narrowed to a code, which is no plainer.
         for code in 0..self.codes {
             prices[usize::from(code)] = self.pair_price::<T>(spot, code);
         }

@@ -29,8 +29,8 @@ returns g c =
     c.index-spent-last.is
     ∙ get_or_default c.args.spent.now last c.index-spent-last.result j.empty (omega (arith, few, inside, c.requires.long))
     ∙ c.requires.known last (omega (arith, c.if-length-eq0.false)) in
-    let price : get_or tables.prices.now ((c.args.length - 1) * 64 + c.from.result) c.index-self-last.result ≡ pair_cost j rows last (get_or a last 0) =
-    ap (λ (z : ℕ). get_or tables.prices.now (last * 64 + z) c.index-self-last.result) c.from.ensures
+    let price : get_or tables.prices.now ((c.args.length - 1) * 64 + c.from-code.result) c.index-self-last.result ≡ pair_cost j rows last (get_or a last 0) =
+    ap (λ (z : ℕ). get_or tables.prices.now (last * 64 + z) c.index-self-last.result) c.from-code.ensures
     ∙ get_or_default tables.prices.now at c.index-self-last.result j.empty (omega (arith, few, inside, code, sheet.narrow, tables.prices_long))
     ∙ tables.priced last (get_or a last 0) (omega arith) inside code in
     turn_joins j.join price spent (pairs_push j g.met.T.Joins.monoid sheet.items rows (proper_is sheet.items rows sheet.sound) (λ s. get_or a s 0) last) c.join.ensures
