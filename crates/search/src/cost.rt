@@ -30,7 +30,6 @@ pub(crate) fn least<T: Tally, F: Fn(u8) -> T::Cost>(codes: u8, price: F) -> T::C
     requires callable { (c : ℕ) → c < codes → F.pre price c }
     ensures { (rows : List Row) (spot : ℕ) → ((c : ℕ) (x : _) → c < codes → F.post price c x → x ≡ pair_cost T.Joins.joining rows spot c) → result ≡ pair_bound T.Joins.joining T.Tally.order codes rows spot }
 {
-    // A loop over the codes: a code is a number, and no list has them.
     let mut least = price(0);
     for code in 1..codes {
         least = lesser::<T>(price(code), least);
@@ -81,7 +80,6 @@ impl Sheet {
     pub fn bound<T: Tally>(&self) -> T::Cost
         ensures { result ≡ sheet_bound T.Joins.joining T.Tally.order self.now.codes self.now.items (rows_of self.now) }
     {
-        // A loop over the places of the pairs: a place is a number, and no list has them.
         let mut sum = T::empty();
         for spot in 0..pairs(self.items) {
             let bound = least::<T, _>(self.codes, |code| self.pair_price::<T>(spot, code));

@@ -18,7 +18,8 @@ pub(crate) fn rise(cursor: &mut [u8], codes: u8, shared: usize, filled: usize) -
     ensures shares { IfSome result (λ q. take (q - 1) cursor.new ≡ take (q - 1) cursor.old) }
     ensures blank { IfSome result (λ q. Blank q cursor.new) }
 {
-    // A loop over places: whether a code rises or becomes 0 goes by its place.
+    // A loop over places. `for (i, code) in cursor[..count].iter_mut().enumerate().rev()` was tried, and its proof did not close: after a
+    // loop that an adapter like `rev` runs, a proof knows the length of a slice that was written by `iter_mut`, and none of its items.
     for i in (0..shared.max(filled)).rev() {
         if i < shared && cursor[i] + 1 < codes {
             cursor[i] += 1;

@@ -7,6 +7,8 @@ use std::alloc::{AllocError, Global};
 /// the joins of the lower bounds of the pairs from each place on, and the costs of the prefixes at the cursor.
 #[derive(Drop)]
 pub struct Ledger<C> {
+    // One flat list. `Vec<[C; 64]>` was tried, and its proof did not close: `resize` asks there that 64 costs fit in memory, and nothing
+    // says how large a `C` is, so that `new` would have to ask it of its callers.
     pub(crate) prices: Vec<C>,
     pub(crate) owed: Vec<C>,
     pub(crate) spent: Vec<C>,

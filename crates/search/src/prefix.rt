@@ -1,6 +1,7 @@
 // The prefixes of the scenario at the cursor, and which of them are refuted.
 ghost use Rattle.std.specs.Prelude.{◌≡◌, ◌+◌, ◌<◌, ◌≤◌, false, not, IfSome, unwrap_or, length as length_of, slice_index};
 ghost use Rattle.std.specs.List.{list_any, zip};
+ghost use Rattle.std.proofs.Props.{props};
 ghost use Rattle.points.specs.Scenarios.{pairs as pairs_of, place as place_of};
 ghost use Rattle.rules.specs.Orders.{Below};
 ghost use Rattle.rules.specs.Steps.{some, unfit, refuted, first_passing};
@@ -102,81 +103,80 @@ fn misfits<K: Kind>(firsts: &[u8], second: u8, thirds: &[u8]) -> bool
         .any(|(&first, &third)| !K::fits(first, second, third))
 }
 
-impl<'a, T: Tally> Tables<'a, T> {
+// The tables of a search with the scenario at its cursor, which has a code for each pair.
+#[derive(Drop)]
+pub(crate) struct Prefixes<'a, T: Tally> {
+    pub(crate) tables: &'a Tables<'a, T>,
+    pub(crate) cursor: &'a [u8],
+    ghost long: { length_of cursor.now ≡ pairs_of tables.now.sheet.now.items },
+    ghost low: { Below tables.now.sheet.now.codes cursor.now } by { Prim.hlevel props },
+}
+
+impl<'a, T: Tally> Prefixes<'a, T> {
     // Whether one of the triples does not fit that the pair at the place closes.
-    fn closes_misfit<K: Kind>(&self, cursor: &[u8], spot: usize) -> bool
-        requires long { length_of cursor.now ≡ pairs_of self.now.sheet.now.items }
-        requires within { spot < pairs_of self.now.sheet.now.items }
-        ensures { unfit (rules_of self.now.sheet.now K.Kind.fit T.Joins.joining T.Tally.order) self.now.sheet.now.items spot cursor.now ≡ false → unfit (rules_of self.now.sheet.now K.Kind.fit T.Joins.joining T.Tally.order) self.now.sheet.now.items (spot + 1) cursor.now ≡ result }
+    fn closes_misfit<K: Kind>(&self, spot: usize) -> bool
+        requires within { spot < pairs_of self.now.tables.now.sheet.now.items }
+        ensures { unfit (rules_of self.now.tables.now.sheet.now K.Kind.fit T.Joins.joining T.Tally.order) self.now.tables.now.sheet.now.items spot self.now.cursor.now ≡ false → unfit (rules_of self.now.tables.now.sheet.now K.Kind.fit T.Joins.joining T.Tally.order) self.now.tables.now.sheet.now.items (spot + 1) self.now.cursor.now ≡ result }
     {
         let (low, high) = sides(spot);
-        let count = low as usize;
+        let count = usize::from(low);
         let (first, third) = (pairs(low), pairs(high));
         misfits::<K>(
-            &cursor[first..first + count],
-            cursor[spot],
-            &cursor[third..third + count],
+            &self.cursor[first..first + count],
+            self.cursor[spot],
+            &self.cursor[third..third + count],
         )
     }
 
     // The cost of the prefix of so many codes, from that of the one before it.
-    fn prefix_cost(&self, cursor: &[u8], spent: &[T::Cost], length: usize) -> T::Cost
-        requires cursor { (length_of cursor.now ≡ pairs_of self.now.sheet.now.items) × Below self.now.sheet.now.codes cursor.now }
-        requires within { length ≤ pairs_of self.now.sheet.now.items }
+    fn prefix_cost(&self, spent: &[T::Cost], length: usize) -> T::Cost
+        requires within { length ≤ pairs_of self.now.tables.now.sheet.now.items }
         requires long { length_of spent.now ≡ 67 }
-        requires known { Spent T.Joins.joining (rows_of self.now.sheet.now) cursor.now length spent.now }
-        ensures { result ≡ spent_on T.Joins.joining (rows_of self.now.sheet.now) cursor.now length }
+        requires known { Spent T.Joins.joining (rows_of self.now.tables.now.sheet.now) self.now.cursor.now length spent.now }
+        ensures { result ≡ spent_on T.Joins.joining (rows_of self.now.tables.now.sheet.now) self.now.cursor.now length }
     {
         if length == 0 {
             return T::empty();
         }
         let last = length - 1;
-        T::join(spent[last], self.prices[last * 64 + cursor[last] as usize])
+        let code = usize::from(self.cursor[last]);
+        T::join(spent[last], self.tables.prices[last * 64 + code])
     }
 
     // Whether the prefix of so many codes is refuted, where no shorter one is.
-    fn is_refuted<K: Kind>(
-        &self,
-        cursor: &[u8],
-        length: usize,
-        cost: T::Cost,
-        best: T::Cost,
-    ) -> bool
-        requires long { length_of cursor.now ≡ pairs_of self.now.sheet.now.items }
-        requires within { length ≤ pairs_of self.now.sheet.now.items }
-        requires cost { cost ≡ spent_on T.Joins.joining (rows_of self.now.sheet.now) cursor.now length }
-        requires stands { Stands (rules_of self.now.sheet.now K.Kind.fit T.Joins.joining T.Tally.order) self.now.sheet.now.items (rows_of self.now.sheet.now) best cursor.now length }
-        ensures { refuted (rules_of self.now.sheet.now K.Kind.fit T.Joins.joining T.Tally.order) self.now.sheet.now.items (rows_of self.now.sheet.now) best cursor.now length ≡ result }
+    fn is_refuted<K: Kind>(&self, length: usize, cost: T::Cost, best: T::Cost) -> bool
+        requires within { length ≤ pairs_of self.now.tables.now.sheet.now.items }
+        requires cost { cost ≡ spent_on T.Joins.joining (rows_of self.now.tables.now.sheet.now) self.now.cursor.now length }
+        requires stands { Stands (rules_of self.now.tables.now.sheet.now K.Kind.fit T.Joins.joining T.Tally.order) self.now.tables.now.sheet.now.items (rows_of self.now.tables.now.sheet.now) best self.now.cursor.now length }
+        ensures { refuted (rules_of self.now.tables.now.sheet.now K.Kind.fit T.Joins.joining T.Tally.order) self.now.tables.now.sheet.now.items (rows_of self.now.tables.now.sheet.now) best self.now.cursor.now length ≡ result }
     {
-        let bound = T::join(cost, self.owed[length]);
+        let bound = T::join(cost, self.tables.owed[length]);
         if T::at_most(best, bound) {
             return true;
         }
         if length == 0 {
             return false;
         }
-        self.closes_misfit::<K>(cursor, length - 1)
+        self.closes_misfit::<K>(length - 1)
     }
 
     // The length of the shortest refuted prefix, if one is refuted, where none shorter than `from` is.
     pub(crate) fn shortest<K: Kind>(
         &self,
-        cursor: &[u8],
         spent: &mut [T::Cost],
         from: usize,
         best: T::Cost,
     ) -> Option<usize>
-        requires cursor { (length_of cursor.now ≡ pairs_of self.now.sheet.now.items) × Below self.now.sheet.now.codes cursor.now }
-        requires within { from ≤ pairs_of self.now.sheet.now.items }
-        requires known { Known (rules_of self.now.sheet.now K.Kind.fit T.Joins.joining T.Tally.order) self.now.sheet.now.items (rows_of self.now.sheet.now) best cursor.now from spent.old }
-        ensures is { unwrap_or result (pairs_of self.now.sheet.now.items + 1) ≡ first_passing (refuted (rules_of self.now.sheet.now K.Kind.fit T.Joins.joining T.Tally.order) self.now.sheet.now.items (rows_of self.now.sheet.now) best cursor.now) (pairs_of self.now.sheet.now.items + 1) 0 }
-        ensures within { IfSome result (λ q. q ≤ pairs_of self.now.sheet.now.items) }
-        ensures known { Known (rules_of self.now.sheet.now K.Kind.fit T.Joins.joining T.Tally.order) self.now.sheet.now.items (rows_of self.now.sheet.now) best cursor.now (unwrap_or result (pairs_of self.now.sheet.now.items + 1)) spent.new }
+        requires within { from ≤ pairs_of self.now.tables.now.sheet.now.items }
+        requires known { Known (rules_of self.now.tables.now.sheet.now K.Kind.fit T.Joins.joining T.Tally.order) self.now.tables.now.sheet.now.items (rows_of self.now.tables.now.sheet.now) best self.now.cursor.now from spent.old }
+        ensures is { unwrap_or result (pairs_of self.now.tables.now.sheet.now.items + 1) ≡ first_passing (refuted (rules_of self.now.tables.now.sheet.now K.Kind.fit T.Joins.joining T.Tally.order) self.now.tables.now.sheet.now.items (rows_of self.now.tables.now.sheet.now) best self.now.cursor.now) (pairs_of self.now.tables.now.sheet.now.items + 1) 0 }
+        ensures within { IfSome result (λ q. q ≤ pairs_of self.now.tables.now.sheet.now.items) }
+        ensures known { Known (rules_of self.now.tables.now.sheet.now K.Kind.fit T.Joins.joining T.Tally.order) self.now.tables.now.sheet.now.items (rows_of self.now.tables.now.sheet.now) best self.now.cursor.now (unwrap_or result (pairs_of self.now.tables.now.sheet.now.items + 1)) spent.new }
     {
-        for length in from..=cursor.len() {
-            let cost = self.prefix_cost(cursor, spent, length);
+        for length in from..=self.cursor.len() {
+            let cost = self.prefix_cost(spent, length);
             spent[length] = cost;
-            if self.is_refuted::<K>(cursor, length, cost, best) {
+            if self.is_refuted::<K>(length, cost, best) {
                 return Some(length);
             }
         }

@@ -8,6 +8,7 @@ ghost use Rattle.search.specs.Tables.{Keeps};
 
 use crate::cursor::rise;
 use crate::ledger::Ledger;
+use crate::prefix::Prefixes;
 use crate::sheet::Sheet;
 use crate::table::Tables;
 use kinds::kind::Kind;
@@ -41,7 +42,11 @@ impl<'a, T: Tally> Tables<'a, T> {
         ensures keeps { IfSome result (λ k. Keeps (rules_of self.now.sheet.now K.Kind.fit T.Joins.joining T.Tally.order) self.now.sheet.now.items (rows_of self.now.sheet.now) incumbent.new cursor.new k spent.new) }
     {
         let codes = self.sheet.codes;
-        match self.shortest::<K>(cursor, spent, kept.stands, kept.best) {
+        let prefixes = Prefixes::<T> {
+            tables: self,
+            cursor,
+        };
+        match prefixes.shortest::<K>(spent, kept.stands, kept.best) {
             Some(length) => {
                 let risen = rise(cursor, codes, length, kept.filled)?;
                 Some(Kept {

@@ -29,9 +29,11 @@ impl Sheet {
         requires { self.now.codes ≤ length prices.old }
         ensures { (c : ℕ) → c < self.now.codes → slice_index_or prices.new c T.Joins.joining.empty ≡ pair_cost T.Joins.joining (rows_of self.now) spot c }
     {
-        // A loop over the codes: the code is the place in the table, and the price is asked by it.
+        // A loop over the codes. `for (price, code) in prices.iter_mut().zip(0..self.codes)` was tried, and its proof did not close: after
+        // a loop that an adapter like `zip` runs, a proof knows the length of a slice that was written by `iter_mut`, and none of its items.
+        // With `enumerate` it knows the items, but the place is then a `usize` that has to be narrowed to a code, which is no plainer.
         for code in 0..self.codes {
-            prices[code as usize] = self.pair_price::<T>(spot, code);
+            prices[usize::from(code)] = self.pair_price::<T>(spot, code);
         }
     }
 
@@ -47,7 +49,7 @@ impl Sheet {
         for spot in (0..count).rev() {
             let prices = &mut prices[spot * 64..spot * 64 + 64];
             self.price_pair::<T>(spot, prices);
-            let bound = least::<T, _>(self.codes, |code| prices[code as usize]);
+            let bound = least::<T, _>(self.codes, |code| prices[usize::from(code)]);
             owed[spot] = T::join(bound, owed[spot + 1]);
         }
     }

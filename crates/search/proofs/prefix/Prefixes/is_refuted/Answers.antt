@@ -7,7 +7,7 @@ use Rattle.rules.specs.declared.row.Row.{Row}
 use Rattle.rules.specs.Steps.{Rules, refuted, unfit}
 use Rattle.points.specs.Scenarios.{pairs}
 use Rattle.search.proofs.Prefixes.{unfit_zero, refuted_by}
-use Rattle.search.proofs.table.Tables.is_refuted.Goals as goal
+use Rattle.search.proofs.prefix.Prefixes.is_refuted.Goals as goal
 
 -- What is owed by the table, and the prefix by its cost and by whether its triples fit.
 module _ {C : Type 0} (r : Rules C) (n : ℕ) (rows : List Row) (best : C) (a : List ℕ) (owed : List C) (long : length owed ≡ 67)
@@ -20,11 +20,11 @@ module _ {C : Type 0} (r : Rules C) (n : ℕ) (rows : List Row) (best : C) (a : 
 
 pub returns-then-length-eq0 : goal.returns-then-length-eq0
 returns-then-length-eq0 g c =
-    let tables = c.args.self.now in
-    let sheet = c.args.self.now.sheet.now in
+    let tables = c.args.self.now.tables.now in
+    let sheet = c.args.self.now.tables.now.sheet.now in
     let r = rules_of sheet g.K.Kind.fit g.T.Joins.joining g.T.Tally.order in
-    by_parts r sheet.items (rows_of sheet) c.args.best c.args.cursor.now tables.owed.now tables.owed_long tables.bounded
+    by_parts r sheet.items (rows_of sheet) c.args.best c.args.self.now.cursor.now tables.owed.now tables.owed_long tables.bounded
     c.args.length c.requires.within (sheet.fits) c.args.cost c.index-self-length.result c.join-bound.result false c.at_most.result
     c.requires.cost c.join-bound.ensures
-    (ap (λ (z : ℕ). unfit r sheet.items z c.args.cursor.now) c.if-length-eq0.true ∙ unfit_zero r sheet.items c.args.cursor.now) c.at_most.ensures
+    (ap (λ (z : ℕ). unfit r sheet.items z c.args.self.now.cursor.now) c.if-length-eq0.true ∙ unfit_zero r sheet.items c.args.self.now.cursor.now) c.at_most.ensures
     ∙ c.if-at_most.false
