@@ -1,5 +1,5 @@
 -- What is shown first among answers that are looked at one by one, each by its place.
-use Rattle.std.proofs.Common.{◌≡◌, ℕ, zero, suc, ◌+◌, ◌<◌, ◌≤◌, List, [], ◌∷◌, length, get_or, Some, None, Option, IfSome, IsSomeAnd, MatchOption, IsTrue, Bool, true, Bor, refl, ap, sym, ◌∙◌, subst, arith}
+use Rattle.std.proofs.Common.{◌≡◌, ℕ, zero, suc, ◌+◌, ◌<◌, ◌≤◌, List, [], ◌∷◌, length, get_or, Some, None, Option, IfSome, IsSomeAnd, MatchOption, IsTrue, Bool, true, Bor, refl, ap, ◌∙◌, arith}
 use Rattle.std.specs.Option.{option_copied, option_map}
 use Rattle.std.specs.Fn.{Called}
 use denote.Param.Members.{Mut}

@@ -66,4 +66,4 @@ settling steps = Close ∷ Search steps ∷ Show 12 ∷ map Charge (range_with_l
 pub record Tells {V C : Type 0} (answers : List (Answer V C)) (a : Account V C) : Type 0 where
   pub sight : Sight V C
   pub shown : first_sight answers ≡ Some sight
-  pub is : record { values = vec_items sight.values; cost = sight.cost; floor = sight.floor; finished = sight.finished; charges = charges_in answers } ≡ a
+  pub is : record { values = vec_items sight.values; cost = sight.shown.cost; floor = sight.shown.floor; finished = sight.shown.finished; charges = charges_in answers } ≡ a

@@ -26,7 +26,7 @@ fn settling(heap: Global, steps: u32) -> Result<Vec<Call>, AllocError>
     ensures { IfOk result (λ v. v.items ≡ calls_of steps) }
 {
     let mut script = vec![in heap; Call::Close, Call::Search(steps), Call::Show(12)]?;
-    // A loop: of a closure that makes a call, a proof does not see which.
+    // A loop, since nothing is known in a proof of a closure that makes a case of an enum.
     for person in 1..=20 {
         script.push(Call::Charge(person))?;
     }

@@ -7,6 +7,7 @@ use crate::text::put;
 use files::letter::TallyLetter;
 use kinds::notation::Notation;
 use runs::answer::Sight;
+use sheets::closed::Shown;
 use statements::fault::Fault;
 use std::alloc::{AllocError, Global};
 use tallies::tally::{Joins, Tally};
@@ -20,14 +21,14 @@ pub struct Report<'a, V, C> {
 }
 
 // The costs of the first line, and whether the search has finished.
-fn costs_text<T: PrintedTally>(
-    heap: Global,
-    cost: T::Cost,
-    floor: T::Cost,
-    finished: bool,
-) -> Result<String, AllocError>
-    ensures { IfOk result (λ s. string_bytes s ≡ costs_part T.PrintedTally.cost_text cost floor finished) }
+fn costs_text<T: PrintedTally>(heap: Global, shown: Shown<T::Cost>) -> Result<String, AllocError>
+    ensures { IfOk result (λ s. string_bytes s ≡ costs_part T.PrintedTally.cost_text shown.cost shown.floor shown.finished) }
 {
+    let Shown {
+        cost,
+        floor,
+        finished,
+    } = shown;
     let state = if finished { "final" } else { "open" };
     format!(in heap; " cost {cost} floor {floor} {state}\n")
 }
@@ -38,7 +39,7 @@ fn sheet_text<K: PrintedKind, T: PrintedTally>(
     number: u64,
     sight: &Sight<K::Value, T::Cost>,
 ) -> Result<Vec<u8>, AllocError>
-    ensures { IfOk result (λ v. v.items ≡ sheet_line (print K.Notation.initial T.TallyLetter.initial K.PrintedKind.value_text T.PrintedTally.cost_text) number (length sight.now.values.items) sight.now.cost sight.now.floor sight.now.finished) }
+    ensures { IfOk result (λ v. v.items ≡ sheet_line (print K.Notation.initial T.TallyLetter.initial K.PrintedKind.value_text T.PrintedTally.cost_text) number (length sight.now.values.items) sight.now.shown.cost sight.now.shown.floor sight.now.shown.finished) }
 {
     // In pieces, since a letter is any byte and need not be a text of its own.
     let items = sight.values.len();
@@ -46,12 +47,7 @@ fn sheet_text<K: PrintedKind, T: PrintedTally>(
     text.push(K::letter())?;
     text.extend_from_slice(format!(in heap; " {items} ")?.as_bytes())?;
     text.push(T::letter())?;
-    text.extend_from_slice(costs_text::<T>(
-        heap,
-        sight.cost,
-        sight.floor,
-        sight.finished,
-    )?.as_bytes())?;
+    text.extend_from_slice(costs_text::<T>(heap, sight.shown)?.as_bytes())?;
     Ok(text)
 }
 
@@ -100,7 +96,7 @@ fn report_text<K: PrintedKind, T: PrintedTally>(
     heap: Global,
     report: &Report<K::Value, T::Cost>,
 ) -> Result<Vec<u8>, AllocError>
-    ensures { IfOk result (λ v. v.items ≡ report_of (print K.Notation.initial T.TallyLetter.initial K.PrintedKind.value_text T.PrintedTally.cost_text) (λ c. T.Tally.order c T.Joins.joining.empty) report.now.number report.now.sight.now.values.items report.now.sight.now.cost report.now.sight.now.floor report.now.sight.now.finished report.now.charges.now) }
+    ensures { IfOk result (λ v. v.items ≡ report_of (print K.Notation.initial T.TallyLetter.initial K.PrintedKind.value_text T.PrintedTally.cost_text) (λ c. T.Tally.order c T.Joins.joining.empty) report.now.number report.now.sight.now.values.items report.now.sight.now.shown.cost report.now.sight.now.shown.floor report.now.sight.now.shown.finished report.now.charges.now) }
 {
     let values = report.sight.values.as_slice();
     let mut text = sheet_text::<K, T>(heap, report.number, report.sight)?;
@@ -124,7 +120,8 @@ pub fn write_report<K: PrintedKind, T: PrintedTally>(
     report: &Report<K::Value, T::Cost>,
     buffer: &mut [u8],
 ) -> Result<usize, Fault>
-    ensures { PutsOrWants (report_of (print K.Notation.initial T.TallyLetter.initial K.PrintedKind.value_text T.PrintedTally.cost_text) (λ c. T.Tally.order c T.Joins.joining.empty) report.now.number report.now.sight.now.values.items report.now.sight.now.cost report.now.sight.now.floor report.now.sight.now.finished report.now.charges.now) buffer.old buffer.new result }
+    ensures { PutsOrWants (report_of (print K.Notation.initial T.TallyLetter.initial K.PrintedKind.value_text T.PrintedTally.cost_text) (λ c. T.Tally.order c T.Joins.joining.empty) report.now.number report.now.sight.now.values.items report.now.sight.now.shown.cost report.now.sight.now.shown.floor report.now.sight.now.shown.finished report.now.charges.now) buffer.old buffer.new result }
 {
+    // By the rule for reports the text is put at the front of the caller's buffer; to hand it out would be another public call.
     put(buffer, report_text::<K, T>(heap, report)?.as_slice())
 }

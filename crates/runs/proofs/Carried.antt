@@ -1,7 +1,6 @@
 -- A call of a closed sheet, or of either state, is carried out as the model has it.
 use Rattle.std.proofs.Common.{◌≡◌, ℕ, ◌+◌, ◌<◌, ◌≤◌, Bool, length, take, get_or, List, [], ◌∷◌, ◌++◌, Ok, Err, Result, None, Some, Option, IfOk, sym, refl, ap, ◌∙◌, subst}
 use Rattle.std.proofs.lemmas.List.{take_more, take_all}
-use Rattle.points.specs.Scenarios.{entry}
 use Rattle.kinds.specs.Meaning.{Meaning}
 use Rattle.kinds.specs.declared.kind.Kind.{Ghosts as Kinds}
 use Rattle.tallies.specs.Joins.{Joining}
@@ -9,19 +8,18 @@ use Rattle.tallies.specs.declared.claim.Claim.{Claim}
 use Rattle.tallies.specs.declared.tally.Tally.{Ghosts as Tallies}
 use Rattle.tallies.specs.declared.tally.Joins.{Ghosts as Joinings}
 use Rattle.rules.specs.declared.row.Row.{Row}
-use Rattle.rules.specs.Costs.{charge}
 use Rattle.rules.specs.Steps.{Rules, Position, advance, taken}
 use Rattle.rules.specs.Soundness.{rules}
 use Rattle.search.specs.Closed.{rows_of, position_of}
 use Rattle.statements.specs.declared.fault.Fault.{Fault}
 use Rattle.statements.specs.Faults.{first_fault}
-use Rattle.statements.specs.Searches.{search_checks, charge_checks}
+use Rattle.statements.specs.Searches.{search_checks}
 use Rattle.sheets.specs.declared.closed.Closed.{Closed}
 use Rattle.sheets.specs.Closed.{Searched}
 use Rattle.runs.specs.declared.call.Call.{Call}
-use Rattle.runs.specs.declared.call.Call.TheVariants.{Search, Show, Charge}
+use Rattle.runs.specs.declared.call.Call.TheVariants.{Search, Show}
 use Rattle.runs.specs.declared.answer.Answer.{Answer}
-use Rattle.runs.specs.declared.answer.Answer.TheVariants.{Refused, Took, Charged}
+use Rattle.runs.specs.declared.answer.Answer.TheVariants.{Refused, Took}
 use Rattle.runs.specs.declared.state.State.{State}
 use Rattle.runs.specs.declared.state.State.TheVariants.{Closing}
 use Rattle.runs.specs.Models.{Model, closed, verdict, next, after}
@@ -70,20 +68,6 @@ module _ {A B V C : Type 0} {k : Kinds A V} {t : Tallies B C} {g : Joinings B C}
   pub carried_show : (s : Closed A B V C k t g) (places : ℕ) (a : Answer V C)
       → Showing m values (rules m fit j at_most) s.sheet.items (rows_of s.sheet) (position_of s.sheet) places a → (so_far asked : ℕ) → Carries {k = k} {t = t} {j = g} m values (rules m fit j at_most) (closed_view s so_far asked) (Show places) (Closing s) a
   carried_show s places a shows so_far asked = record { answers = shows; views = (so_far, asked, refl) }
-
-  pub carried_charge : (s : Closed A B V C k t g) (p : ℕ) (c : C) → first_fault (charge_checks p) ≡ None
-      → c ≡ charge j (rows_of s.sheet) (entry (position_of s.sheet).incumbent) p → (so_far asked : ℕ) → Carries {k = k} {t = t} {j = g} m values (rules m fit j at_most) (closed_view s so_far asked) (Charge p) (Closing s) (Charged c)
-  carried_charge s p c pass is so_far asked = record {
-    answers = ap Charged is
-        ∙ ap (λ (o : Option Fault). verdict {A = Answer V C} o (Charged (charge j (rows_of s.sheet) (entry (position_of s.sheet).incumbent) p)) Refused) (sym pass);
-    views = (so_far, asked, refl);
-  }
-
-  pub refused_charge : (s : Closed A B V C k t g) (p : ℕ) (f : Fault) → first_fault (charge_checks p) ≡ Some f → (so_far asked : ℕ) → Carries {k = k} {t = t} {j = g} m values (rules m fit j at_most) (closed_view s so_far asked) (Charge p) (Closing s) (Refused f)
-  refused_charge s p f fail so_far asked = record {
-    answers = ap (λ (o : Option Fault). verdict {A = Answer V C} o (Charged (charge j (rows_of s.sheet) (entry (position_of s.sheet).incumbent) p)) Refused) (sym fail);
-    views = (so_far, asked, refl);
-  }
 
   -- Of a closed sheet any model that it stands for will do.
   pub any_view : (s : Closed A B V C k t g) (c : Call) (state : State A B V C k t g) (a : Answer V C)

@@ -67,7 +67,7 @@ module _ {V C : Type 0} (m : Meaning V) (laws : Laws m) (fit : ℕ → ℕ → �
         let real : Realises m n s.incumbent x =
         realises_same n s.incumbent (values n s.incumbent) x (λ i l. w.written i other l) (realises n s.incumbent h.fine.some h.fine.few h.sound.fitting) in
         let is : Settled m r n rows s x (best_cost r rows s) (finished r n s) = settled m laws fit j at_most n rows (proper_is n rows h.fine.sound) s h.sound x real in
-        subst (λ (c : C). Settled m r n rows s x c sight.finished) (sym w.cost_is)
+        subst (λ (c : C). Settled m r n rows s x c sight.shown.finished) (sym w.cost_is)
         (subst (λ (v : Bool). Settled m r n rows s x (best_cost r rows s) v) (sym w.finished_is) is);
     below = λ y law. subst (λ (c : C). at_most c (cost_by m j rows y) ≡ true) (sym w.floor_is)
         (bound_below m laws fit j monoid at_most ranking n rows (proper_is n rows h.fine.sound) y law);

@@ -26,9 +26,9 @@ module _ {V C : Type 0} (m : Meaning V) (values : ℕ → List ℕ → ℕ → V
   pub record Shows (n : ℕ) (rows : List Row) (s : Position) (sight : Sight V C) : Type 0 where
     pub each : length (vec_items sight.values) ≡ n
     pub written : (i : ℕ) (other : V) → i < n → slice_index_or (vec_items sight.values) i other ≡ values n s.incumbent i
-    pub cost_is : sight.cost ≡ cost r.joining rows (entry s.incumbent)
-    pub floor_is : sight.floor ≡ sheet_bound r.joining r.at_most r.codes n rows
-    pub finished_is : sight.finished ≡ finished r n s
+    pub cost_is : sight.shown.cost ≡ cost r.joining rows (entry s.incumbent)
+    pub floor_is : sight.shown.floor ≡ sheet_bound r.joining r.at_most r.codes n rows
+    pub finished_is : sight.shown.finished ≡ finished r n s
 
   -- What a show on so many places answers: what is shown, or the refusal of its first check that fails.
   abbrev pub Showing : ℕ → List Row → Position → ℕ → Answer V C → Type 0

@@ -134,16 +134,16 @@ module _ {V C : Type 0} (m : Meaning V) (r : Rules C) where
   -- that they break; no assignment before the cursor costs less, and none at all if it is finished; and they are the first of that cost.
   pub record SightLaw (sight : Sight V C) (wants : ℕ) (n : ℕ) (rows : List Row) (s : Position) : Type 0 where
     pub each : length (vec_items sight.values) ≡ n
-    pub settled : (other : V) → Settled m r n rows s (λ i. slice_index_or (vec_items sight.values) i other) sight.cost sight.finished
+    pub settled : (other : V) → Settled m r n rows s (λ i. slice_index_or (vec_items sight.values) i other) sight.shown.cost sight.shown.finished
     -- The lower bound that is shown is at most the cost of any assignment.
-    pub below : (y : ℕ → V) → Assignment m n y → r.at_most sight.floor (cost_by m r.joining rows y) ≡ true
+    pub below : (y : ℕ → V) → Assignment m n y → r.at_most sight.shown.floor (cost_by m r.joining rows y) ≡ true
     -- It is shown as finished once the accepted searches have asked for as many steps as there are scenarios after the first.
-    pub ends : total r n - 1 ≤ wants → sight.finished ≡ true
+    pub ends : total r n - 1 ≤ wants → sight.shown.finished ≡ true
 
   -- The charges of the twenty persons, each told at some place with no step and no reopening between it and the show, join to the cost.
   abbrev pub Charges : List Call → List (Answer V C) → Type 0
   Charges calls answers = (l : ℕ) (sight : Sight V C) → At answers l (Shown sight) → (i : ℕ → ℕ) (c : ℕ → C)
-      → ((p : ℕ) → 1 ≤ p → p ≤ 20 → Told calls answers l (i p) p (c p)) → span r.joining c 1 20 ≡ sight.cost
+      → ((p : ℕ) → 1 ≤ p → p ≤ 20 → Told calls answers l (i p) p (c p)) → span r.joining c 1 20 ≡ sight.shown.cost
 
   -- Where a search stands after so many steps answered and asked for: each step has moved the cursor on by one or more, there were fewer
   -- steps than scenarios, and it has finished once one fewer than there are scenarios were asked for. The steps are those that follow from

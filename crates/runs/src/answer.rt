@@ -3,16 +3,15 @@ ghost use Rattle.std.specs.Prelude.{◌≡◌};
 ghost use Rattle.std.specs.Option.{option_copied};
 ghost use Rattle.runs.specs.Told.{sight_in, charge_in};
 
+use sheets::closed::Shown;
 use statements::entry::Entry;
 use statements::fault::Fault;
 
-/// What is shown: the values, one for each item; their cost; the lower bound of the sheet; and whether the search has finished.
+/// What is shown: the values, one for each item, and what the show answers of them.
 #[derive(Drop)]
 pub struct Sight<V, C> {
     pub values: Vec<V>,
-    pub cost: C,
-    pub floor: C,
-    pub finished: bool,
+    pub shown: Shown<C>,
 }
 
 /// What a call of a script answers.

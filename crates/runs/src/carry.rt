@@ -2,18 +2,61 @@
 ghost use Rattle.std.specs.Prelude.{◌≡◌, ℕ, IfOk};
 ghost use Rattle.rules.specs.Soundness.{rules};
 ghost use Rattle.runs.specs.Models.{Model};
-ghost use Rattle.runs.specs.States.{draft_view, closed_view, Views, Carries};
+ghost use Rattle.runs.specs.declared.call.Call.TheVariants.{Close, Search, Charge};
+ghost use Rattle.runs.specs.declared.state.State.TheVariants.{Drafting, Closing};
+ghost use Rattle.runs.specs.States.{draft_view, closed_view, Views, told, Carries};
 
 use crate::answer::Answer;
 use crate::call::Call;
-use crate::page::show_on;
+use crate::page::{page_of, show_on};
 use crate::state::State;
 use kinds::kind::Kind;
 use sheets::closed::Closed;
 use sheets::held::Draft;
 use statements::entry::Entry;
+use statements::fault::Fault;
 use std::alloc::{AllocError, Global};
 use tallies::tally::{Joins, Tally};
+
+// What a call answers: a refusal says by which fault.
+fn answer_of<V, C>(answered: Result<Answer<V, C>, Fault>) -> Answer<V, C>
+    ensures { result ≡ told answered }
+{
+    match answered {
+        Ok(answer) => answer,
+        Err(fault) => Answer::Refused(fault),
+    }
+}
+
+// A call of a draft that does not close it.
+fn told_by_draft<K: Kind, T: Tally>(
+    draft: &mut Draft<K, T>,
+    call: Call,
+) -> Result<Answer<K::Value, T::Cost>, Fault>
+    ensures { (call ≡ Close → ⊥) → Carries K.Kind.meaning K.Kind.values (rules K.Kind.meaning K.Kind.fit T.Joins.joining T.Tally.order) (draft_view draft.old) call (Drafting draft.new) (told result) }
+{
+    Ok(match call {
+        Call::Size(items) => {
+            draft.size(items)?;
+            Answer::Done
+        }
+        Call::Enter(entry) => Answer::Entered(draft.enter(entry)?),
+        Call::Strike(number) => {
+            draft.strike(number)?;
+            Answer::Done
+        }
+        Call::Reweigh(number, weight) => {
+            draft.reweigh(number, weight)?;
+            Answer::Done
+        }
+        Call::Look(number) => {
+            let (statement, struck) = draft.look(number)?;
+            Answer::Looked(Entry::from(statement), struck)
+        }
+        Call::Close | Call::Search(_) | Call::Show(_) | Call::Charge(_) | Call::Reopen =>
+            Answer::Unmade,
+    })
+}
 
 // A call of a draft.
 fn on_draft<K: Kind, T: Tally>(
@@ -22,34 +65,34 @@ fn on_draft<K: Kind, T: Tally>(
 ) -> (State<K, T>, Answer<K::Value, T::Cost>)
     ensures { Carries K.Kind.meaning K.Kind.values (rules K.Kind.meaning K.Kind.fit T.Joins.joining T.Tally.order) (draft_view draft) call result.0 result.1 }
 {
-    let mut draft = draft;
-    // Each call of the draft answers in a type of its own. `map_or_else` would say an arm in a line, but the checker does not cover a
-    // closure whose answer names a type that its argument does not.
-    let answer = match call {
-        Call::Size(items) => match draft.size(items) {
-            Ok(()) => Answer::Done,
-            Err(fault) => Answer::Refused(fault),
-        },
-        Call::Enter(entry) => match draft.enter(entry) {
-            Ok(number) => Answer::Entered(number),
-            Err(fault) => Answer::Refused(fault),
-        },
-        Call::Strike(number) => match draft.strike(number) {
-            Ok(()) => Answer::Done,
-            Err(fault) => Answer::Refused(fault),
-        },
-        Call::Reweigh(number, weight) => match draft.reweigh(number, weight) {
-            Ok(()) => Answer::Done,
-            Err(fault) => Answer::Refused(fault),
-        },
-        Call::Look(number) => match draft.look(number) {
-            Ok((statement, struck)) => Answer::Looked(Entry::from(statement), struck),
-            Err(fault) => Answer::Refused(fault),
-        },
-        Call::Close => return (State::Closing(draft.close()), Answer::Done),
-        Call::Search(_) | Call::Show(_) | Call::Charge(_) | Call::Reopen => Answer::Unmade,
-    };
-    (State::Drafting(draft), answer)
+    match call {
+        Call::Close => (State::Closing(draft.close()), Answer::Done),
+        _ => {
+            let mut draft = draft;
+            let answered = told_by_draft(&mut draft, call);
+            (State::Drafting(draft), answer_of(answered))
+        }
+    }
+}
+
+// A search of a closed sheet.
+fn told_by_search<K: Kind, T: Tally>(
+    closed: &mut Closed<K, T>,
+    steps: u32,
+) -> Result<Answer<K::Value, T::Cost>, Fault>
+    ensures { (taken asked : ℕ) → Carries K.Kind.meaning K.Kind.values (rules K.Kind.meaning K.Kind.fit T.Joins.joining T.Tally.order) (closed_view closed.old taken asked) (Search steps) (Closing closed.new) (told result) }
+{
+    Ok(Answer::Took(closed.search(steps)?))
+}
+
+// A charge of a closed sheet.
+fn told_by_charge<K: Kind, T: Tally>(
+    closed: &Closed<K, T>,
+    person: u32,
+) -> Result<Answer<K::Value, T::Cost>, Fault>
+    ensures { (taken asked : ℕ) → Carries K.Kind.meaning K.Kind.values (rules K.Kind.meaning K.Kind.fit T.Joins.joining T.Tally.order) (closed_view closed.now taken asked) (Charge person) (Closing closed.now) (told result) }
+{
+    Ok(Answer::Charged(closed.charge(person)?))
 }
 
 // A call of a closed sheet.
@@ -61,25 +104,19 @@ fn on_closed<K: Kind, T: Tally>(
     ensures { IfOk result (λ p. (steps asked : ℕ) → Carries K.Kind.meaning K.Kind.values (rules K.Kind.meaning K.Kind.fit T.Joins.joining T.Tally.order) (closed_view closed steps asked) call p.0 p.1) }
 {
     let mut closed = closed;
-    let answer = match call {
-        Call::Search(steps) => match closed.search(steps) {
-            Ok(taken) => Answer::Took(taken),
-            Err(fault) => Answer::Refused(fault),
-        },
-        Call::Show(places) => show_on(heap, &closed, places)?,
-        Call::Charge(person) => match closed.charge(person) {
-            Ok(cost) => Answer::Charged(cost),
-            Err(fault) => Answer::Refused(fault),
-        },
+    let answered = match call {
+        Call::Search(steps) => told_by_search(&mut closed, steps),
+        Call::Show(places) => show_on(&closed, page_of::<K>(heap, places)?),
+        Call::Charge(person) => told_by_charge(&closed, person),
         Call::Reopen => return Ok((State::Drafting(closed.reopen()), Answer::Done)),
         Call::Size(_)
         | Call::Enter(_)
         | Call::Strike(_)
         | Call::Reweigh(_, _)
         | Call::Look(_)
-        | Call::Close => Answer::Unmade,
+        | Call::Close => Ok(Answer::Unmade),
     };
-    Ok((State::Closing(closed), answer))
+    Ok((State::Closing(closed), answer_of(answered)))
 }
 
 // A call of a run, where the state stands for a model.

@@ -98,7 +98,7 @@ impl<K: Kind, T: Tally> Closed<K, T> {
         ensures answers { ByChecks (show_checks self.now.sheet.items (length page.old)) result (Shows K.Kind.values (rules K.Kind.meaning K.Kind.fit T.Joins.joining T.Tally.order) self.now.sheet page.old page.new) (page.new ≡ page.old) }
         ensures settles { IfOk result (Settles K.Kind.meaning (rules K.Kind.meaning K.Kind.fit T.Joins.joining T.Tally.order) self.now.sheet page.new) }
     {
-        if page.len() < self.sheet.items() as usize {
+        if page.len() < usize::from(self.sheet.items()) {
             return Err(Fault::Short);
         }
         K::write(self.sheet.items(), self.sheet.incumbent(), page);

@@ -5,6 +5,7 @@ use reports::account::account;
 use reports::fault::write_fault;
 use reports::report::{Report, write_report};
 use runs::answer::Sight;
+use sheets::closed::Shown;
 use sheets::held::Draft;
 use spells::Spells;
 use spells::spell::Spell;
@@ -37,9 +38,11 @@ fn a_report(rt: HostRuntime) -> Result<(), Fail> {
     let values = vec![in heap; Moment { at: 1 }, Moment { at: 2 }, Moment { at: 0 }]?;
     let sight = Sight {
         values,
-        cost: 2,
-        floor: 0,
-        finished: true,
+        shown: Shown {
+            cost: 2,
+            floor: 0,
+            finished: true,
+        },
     };
     let report = Report {
         number: 1,
@@ -71,9 +74,11 @@ fn an_open_report(rt: HostRuntime) -> Result<(), Fail> {
     let cost = |sworn: u32, weight: u32| SwornCost { sworn, weight };
     let sight = Sight {
         values,
-        cost: cost(1, 900),
-        floor: cost(0, 3),
-        finished: false,
+        shown: Shown {
+            cost: cost(1, 900),
+            floor: cost(0, 3),
+            finished: false,
+        },
     };
     let report = Report {
         number: 12,
@@ -105,9 +110,11 @@ fn the_longest_report(rt: HostRuntime) -> Result<(), Fail> {
     };
     let sight = Sight {
         values,
-        cost,
-        floor: cost,
-        finished: true,
+        shown: Shown {
+            cost,
+            floor: cost,
+            finished: true,
+        },
     };
     let report = Report {
         number: u64::MAX,

@@ -32,7 +32,7 @@ fn told(answer: &Answer<Value, Cost>) -> (char, u32) {
         Answer::Entered(number) => ('e', u32::from(*number)),
         Answer::Looked(entry, _) => ('l', entry.weight),
         Answer::Took(steps) => ('t', *steps),
-        Answer::Shown(sight) => ('s', sight.cost),
+        Answer::Shown(sight) => ('s', sight.shown.cost),
         Answer::Charged(charge) => ('c', *charge),
     }
 }
