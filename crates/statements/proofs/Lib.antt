@@ -1,3 +1,4 @@
 -- The lemmas, by topic.
 pub mod Accepted
 pub mod Meant
+pub mod Turned

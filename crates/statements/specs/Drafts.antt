@@ -1,5 +1,5 @@
 -- What the calls of a draft answer and leave, over its number of items and its list of rows.
-use Rattle.std.specs.Prelude.{◌≡◌, ℕ, zero, suc, ◌+◌, ◌-◌, ◌^◌, Bool, false, cond, not, ◌&&◌, List, [], ◌∷◌, ◌++◌, length, Some, None, Ok, Err, Result, ◌==◌, bit_or, nat_lt, slice_index_or}
+use Rattle.std.specs.Prelude.{◌≡◌, ℕ, zero, suc, ◌+◌, ◌-◌, ◌^◌, ◌<◌, Bool, true, false, Decides, cond, not, ◌&&◌, List, [], ◌∷◌, ◌++◌, length, Some, None, Ok, Err, Result, ◌==◌, bit_or, nat_lt, slice_index_or}
 use Rattle.points.specs.Sets.{has}
 use Rattle.kinds.specs.Meaning.{Meaning}
 use Rattle.rules.specs.declared.row.Row.{Row}
@@ -26,6 +26,10 @@ size_checks n = (between 1 12 n, Size) ∷ []
 abbrev pub converses : (ℕ → ℕ) → ℕ → ℕ → ℕ
 converses conv zero s = 0
 converses conv (suc c) s = cond (has s c && nat_lt (conv c) 64) (bit_or (converses conv c s) (2 ^ conv c)) (converses conv c s)
+
+-- The codes of the second set are the converses of those of the kind's codes that are in the first, and no others.
+abbrev pub Turned : {V : Type 0} → Meaning V → ℕ → ℕ → Type 0
+Turned m set turned = (e : ℕ) → Decides (has turned e) ((c : ℕ) × (c < m.codes) × (has set c ≡ true) × (m.converse c ≡ e))
 
 -- The checks of an entry on a draft of so many items, in their order.
 abbrev pub entry_checks : ℕ → ℕ → Entry → List Check
