@@ -6,3 +6,4 @@ pub mod Standing
 pub mod Loading
 pub mod Turns
 pub mod Readings
+pub mod Lined

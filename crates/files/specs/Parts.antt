@@ -1,5 +1,5 @@
 -- How a text is parted into lines, fields and words, and what the cursors over them give.
-use Rattle.std.specs.Prelude.{◌≡◌, ℕ, cond, List, [], ◌∷◌, ◌++◌, Some, None, Option, ◌==◌, ◌≢◌}
+use Rattle.std.specs.Prelude.{◌≡◌, ℕ, Bool, true, cond, List, [], ◌∷◌, ◌++◌, Some, None, Option, ◌==◌, ◌≢◌}
 use Rattle.std.specs.Borrow.{Bor}
 use Rattle.std.specs.List.{slice_split, onto_first, AllByRecursion}
 use Rattle.files.specs.declared.parts.Parts.{Parts}
@@ -13,6 +13,16 @@ parted c text = slice_split (λ b. b == c) text
 abbrev pub lines : List ℕ → List (List ℕ)
 lines [] = []
 lines (b ∷ bs) = cond (b == 10) ([] ∷ lines bs) (onto_first b (lines bs))
+
+-- no byte stands after the last line feed: the text is empty, or ends with one
+abbrev pub is_ended : List ℕ → Bool
+is_ended [] = true
+is_ended (b ∷ []) = b == 10
+is_ended (b ∷ (c ∷ bs)) = is_ended (c ∷ bs)
+
+-- The lines of a text are its parts between the line feeds, but for the last one where nothing stands in it.
+abbrev pub Lined : List ℕ → Type 0
+Lined text = parted 10 text ≡ lines text ++ cond (is_ended text) ([] ∷ []) []
 
 -- the fields of a line, parted by single spaces; an empty line has one field, which is empty
 abbrev pub fields : List ℕ → List (List ℕ)

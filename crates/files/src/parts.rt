@@ -2,7 +2,7 @@
 ghost use Rattle.std.specs.Prelude.{◌≡◌, ◌+◌, length, ◌==◌, count_by, All};
 ghost use Rattle.std.specs.Iterator.{YieldsFirstRef, item_count};
 ghost use Rattle.std.specs.List.{join_with_byte};
-ghost use Rattle.files.specs.Parts.{parted, lines, left, Lacks, Split, GivesLine};
+ghost use Rattle.files.specs.Parts.{parted, lines, left, Lacks, Lined, Split, GivesLine};
 
 /// Gives the parts of a text between the bytes `by`, one after another. The library's `split` tells how many parts there are and that
 /// none has the byte, but that the parts joined are the text only one step at a time; `Parts::new` promises it of all that are left.
@@ -62,7 +62,8 @@ impl<'a> Iterator for Parts<'a> {
 impl<'a> Lines<'a> {
     /// All lines of the text are to come.
     pub fn new(rest: &'a [u8]) -> Lines<'a>
-        ensures { result.rest.now ≡ rest.now }
+        ensures rest { result.rest.now ≡ rest.now }
+        ensures lined { Lined rest.now }
     {
         Lines { rest }
     }

@@ -6,7 +6,7 @@ use Rattle.files.proofs.Parting.{lines_le}
 use Rattle.files.proofs.reader.Reader.new.Goals as goal
 
 pub invariant_of-spot : goal.invariant_of-spot
-invariant_of-spot c = record { room = (omega (arith, lines_le c.new.result.rest.now, ap length c.new.ensures), omega arith) }
+invariant_of-spot c = record { room = (omega (arith, lines_le c.new.result.rest.now, ap length c.new.ensures.rest), omega arith) }
 
 pub returns-clause-reads : goal.returns-clause-reads
 returns-clause-reads c =
