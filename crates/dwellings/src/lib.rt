@@ -215,10 +215,12 @@ impl Notation for Dwellings {
 
     ghost named = { Worded.named dwelling_words (Worded.unambiguous dwelling_words tt) };
 
+    // The byte of the format.
     fn letter() -> u8 {
         b'D'
     }
 
+    // A `match` each way, as a code is a number and has no `Display` of its own.
     fn word<'a>(code: u8) -> &'a str {
         match code {
             0 => "eq",
@@ -250,7 +252,7 @@ impl Notation for Dwellings {
     }
 }
 
-/// The east number, a space, the north number.
+/// The east number, a space, the north number. Nothing derives it: each type is printed in its own way.
 impl fmt::Display for Dwelling {
     ghost output = { λ d. Some (decimal d.east ++ 32 ∷ decimal d.north) };
 

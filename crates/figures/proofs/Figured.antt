@@ -14,6 +14,7 @@ use Rattle.moments.specs.Timed.{timed}
 use Rattle.dwellings.specs.Charted.{charted}
 use Rattle.spells.specs.Spells.{spells, timeline, spell_words}
 use Rattle.spells.specs.Spelled.{spelled}
+use Rattle.rules.specs.Steps.{searched}
 use Rattle.figures.specs.Small.{moments_by_weight, moments_sworn_first, household, lone, sworn_pair}
 use Rattle.figures.proofs.Searched.{finished_after}
 use Rattle.figures.specs.Figures.{code, Composed, Figures}
@@ -73,6 +74,7 @@ infixr 5 ◌▸◌
 a ▸ b = (a, b)
 
 pub figures : Figures
+unfolding searched
 figures =
     composed moments line timed moment_words "<" "<" ("<" ∷ []) tt
     ▸ composed moments line timed moment_words "<" ">" ("=" ∷ "<" ∷ ">" ∷ []) tt

@@ -3,7 +3,7 @@ use Rattle.std.proofs.Common.{◌≡◌, ℕ, zero, suc, ◌<◌, ◌≤◌, Boo
 use Rattle.std.proofs.lemmas.Bool.{not-true}
 use Rattle.points.proofs.Finite.{both_left, both_right, true_from}
 use Rattle.rules.specs.declared.row.Row.{Row}
-use Rattle.rules.specs.Steps.{Rules, Position, step, opening, finished, advance, taken}
+use Rattle.rules.specs.Steps.{Rules, Position, step, opening, finished, advance, taken, searched}
 use Rattle.figures.specs.Small.{FinishedAfter}
 
 module _ {C : Type 0} (r : Rules C) (n : ℕ) (rows : List Row) where
@@ -40,6 +40,7 @@ module _ {C : Type 0} (r : Rules C) (n : ℕ) (rows : List Row) where
       ∙ ap suc (exactly k (step r n rows s) (rest k s h) m (omega arith))
 
   pub finished_after : (k : ℕ) → T (lasts k (opening n)) → FinishedAfter r n rows k
+  unfolding searched
   finished_after k h = record {
     unfinished = unfinished k (opening n) h;
     ended = ended k (opening n) h;

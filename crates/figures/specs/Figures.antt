@@ -10,7 +10,8 @@ use Rattle.dwellings.specs.Dwellings.{dwelling_words, dwellings}
 use Rattle.spells.specs.Spells.{spells, spell, spell_words}
 use Rattle.tallies.specs.Weights.{by_weight}
 use Rattle.rules.specs.Costs.{sheet_bound}
-use Rattle.figures.specs.Small.{moments_by_weight, moments_sworn_first, household, lone, sworn_pair, searched, charged, Solved}
+use Rattle.rules.specs.Steps.{searched}
+use Rattle.figures.specs.Small.{moments_by_weight, moments_sworn_first, household, lone, sworn_pair, charged, Solved}
 
 -- the code that a word stands for; 64, which is no code, if none
 abbrev pub code : List (List ℕ) → String → ℕ

@@ -9,7 +9,7 @@ use Rattle.tallies.specs.Sworn.{sworn_first, sworn_order}
 use Rattle.tallies.specs.declared.sworn_first.SwornCost.{SwornCost}
 use Rattle.rules.specs.declared.row.Row.{Row}
 use Rattle.rules.specs.Costs.{charge}
-use Rattle.rules.specs.Steps.{Rules, Position, opening, finished, advance, best_cost, taken}
+use Rattle.rules.specs.Steps.{Rules, Position, opening, finished, best_cost, taken, searched}
 use Rattle.rules.specs.Soundness.{rules}
 
 -- Moments by weight (M w), and moments sworn first (M r).
@@ -45,10 +45,6 @@ sworn_pair =
     record { low = 0; high = 1; set = before; weight = 900; person = 1; sworn = false; struck = false }
     ∷ record { low = 0; high = 1; set = after; weight = 1; person = 2; sworn = true; struck = false }
     ∷ []
-
--- Where the search of a sheet of n items stands when k steps have been asked for since its opening.
-abbrev pub searched : {C : Type 0} → Rules C → ℕ → List Row → ℕ → Position
-searched r n rows k = advance r n rows k (opening n)
 
 -- The values of the items there, from the first on.
 abbrev pub values : ℕ → Position → List ℕ

@@ -2,7 +2,7 @@
 use Rattle.std.specs.Prelude.{◌≡◌, ℕ, cond, List, [], ◌∷◌, ◌++◌, Ok, Err, Option, Result}
 use Rattle.std.specs.Option.{option_map}
 use Rattle.rules.specs.declared.row.Row.{Row}
-use Rattle.rules.specs.Properly.{between}
+use Rattle.std.specs.Int.{is_in_range}
 use Rattle.statements.specs.declared.entry.Entry.{Entry}
 use Rattle.statements.specs.declared.fault.Fault.{Fault}
 use Rattle.statements.specs.declared.fault.Fault.TheVariants.{Size, Item, Same, Code, Weight, Person}
@@ -19,7 +19,7 @@ use Rattle.files.specs.Words.{Spelling}
 -- the line itself, where the draft is full
 abbrev pub refusal_field : ℕ → Entry → Fault → ℕ
 refusal_field items e Size = 2
-refusal_field items e Item = cond (between 1 items e.first) 2 1
+refusal_field items e Item = cond (is_in_range 1 items e.first) 2 1
 refusal_field items e Same = 2
 refusal_field items e Code = 3
 refusal_field items e Weight = 4

@@ -1,6 +1,6 @@
 -- A head: the kind's letter, the number of items, the tally's letter.
 use Rattle.std.specs.Prelude.{ℕ, ◌-◌, Bool, cond, ◌||◌, List, [], ◌∷◌, length, Option, Result, ◌==◌, nat_le, slice_index, slice_index_or}
-use Rattle.rules.specs.Properly.{between}
+use Rattle.std.specs.Int.{is_in_range}
 use Rattle.statements.specs.declared.fault.Fault.TheVariants.{Size}
 use Rattle.files.specs.declared.fault.FieldFault.TheVariants.{NotNumber, Unknown}
 use Rattle.files.specs.declared.fault.LineFault.{LineFault}
@@ -12,7 +12,7 @@ use Rattle.files.specs.Numbers.{is_number, value_of}
 
 -- a line whose first byte is A to Z is a head, however unfit it is otherwise; every other line is a statement
 abbrev pub is_head : List ℕ → Bool
-is_head line = between 65 90 (slice_index line 0)
+is_head line = is_in_range 65 90 (slice_index line 0)
 
 -- at most 80 bytes stand in a line
 abbrev pub line_fits : List ℕ → Bool
@@ -42,7 +42,7 @@ head_fault line = first
     ∷ unless (is_kind (letter (field 1 line))) (Field 1 Unknown)
     ∷ unless (is_number (field 2 line)) (Field 2 NotNumber)
     ∷ unless (is_tally (letter (field 3 line))) (Field 3 Unknown)
-    ∷ unless (between 1 12 (value_of (field 2 line))) (Draft 2 Size)
+    ∷ unless (is_in_range 1 12 (value_of (field 2 line))) (Draft 2 Size)
     ∷ [])
 
 -- what the fields of a head say

@@ -1,6 +1,6 @@
 // The calls of a reader.
 ghost use Rattle.std.specs.Prelude.{◌≡◌, ℕ, List, true, []};
-ghost use Rattle.rules.specs.Properly.{between};
+ghost use Rattle.std.specs.Int.{is_in_range};
 ghost use Rattle.files.specs.Faults.{answered};
 ghost use Rattle.files.specs.Files.{ReadsFile};
 ghost use Rattle.files.specs.Sheets.{nowhere as nowhere_with};
@@ -94,7 +94,7 @@ impl<'a> Reader<'a> {
 
 // Sets a size that the draft accepts, and empties its list.
 fn resize<K: Kind, T: Tally>(draft: &mut Draft<K, T>, size: u32)
-    requires { between 1 12 size ≡ true }
+    requires { is_in_range 1 12 size ≡ true }
     ensures size { draft.new.items ≡ size }
     ensures rows { draft.new.rows.items ≡ [] }
 {

@@ -1,6 +1,6 @@
 // The head of a sheet.
 ghost use Rattle.std.specs.Prelude.{◌≡◌};
-ghost use Rattle.rules.specs.Properly.{between};
+ghost use Rattle.std.specs.Int.{is_in_range};
 ghost use Rattle.statements.specs.declared.fault.Fault.TheVariants.{Size};
 ghost use Rattle.files.specs.declared.fault.FieldFault.TheVariants.{Unknown as Unfit};
 ghost use Rattle.files.specs.Faults.{given};
@@ -38,14 +38,14 @@ pub struct Head {
 
 impl Model for Head {
     ghost use Rattle.std.specs.Prelude.{◌≡◌, true};
-    ghost use Rattle.rules.specs.Properly.{between};
+    ghost use Rattle.std.specs.Int.{is_in_range};
     ghost use Rattle.files.specs.Letters.{Said, kind_letter, kind_of, tally_letter, tally_of};
 
     ghost Value = { Said };
 
     ghost view = { λ h. record { letter = kind_letter h.kind; size = h.size; tally = tally_letter h.tally } };
 
-    ghost invariant = { λ h. between 1 12 h.size ≡ true };
+    ghost invariant = { λ h. is_in_range 1 12 h.size ≡ true };
 
     ghost inverse = { λ s. record { kind = kind_of s.letter; size = s.size; tally = tally_of s.tally } };
 }
@@ -84,6 +84,7 @@ impl TryFrom<&[u8]> for HeadTally {
     }
 }
 
+/// The letter of a kind, as a byte. Letters are no discriminants, so a `match` tells them.
 impl From<HeadKind> for u8 {
     ghost from_gives = { λ kind r. r ≡ kind_letter kind };
 
@@ -96,6 +97,7 @@ impl From<HeadKind> for u8 {
     }
 }
 
+/// The letter of a tally, likewise.
 impl From<HeadTally> for u8 {
     ghost from_gives = { λ tally r. r ≡ tally_letter tally };
 
@@ -109,7 +111,7 @@ impl From<HeadTally> for u8 {
 
 // A size that drafts accept.
 fn checked_size(size: u32) -> Result<u32, Fault>
-    ensures { result ≡ given (between 1 12 size) size Size }
+    ensures { result ≡ given (is_in_range 1 12 size) size Size }
 {
     if !(1..=12).contains(&size) {
         return Err(Fault::Size);

@@ -9,7 +9,7 @@ pub trait TallyLetter {
     /// The letter, as a byte.
     ghost initial: { ℕ };
 
-    /// The letter of the tally.
+    /// The letter of the tally, as files and reports have it: a byte, as that of a kind.
     fn letter() -> u8
         ensures { result ≡ initial };
 }
@@ -17,6 +17,7 @@ pub trait TallyLetter {
 impl TallyLetter for ByWeight {
     ghost initial = { 119 };
 
+    // The byte of the format.
     fn letter() -> u8 {
         b'w'
     }
@@ -25,6 +26,7 @@ impl TallyLetter for ByWeight {
 impl TallyLetter for SwornFirst {
     ghost initial = { 114 };
 
+    // The byte of the format.
     fn letter() -> u8 {
         b'r'
     }

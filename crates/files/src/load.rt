@@ -18,7 +18,7 @@ use statements::entry::Entry;
 use statements::fault::Fault;
 use tallies::tally::Tally;
 
-// The field that a draft of so many items refuses an entry at.
+// The field that a draft of so many items refuses an entry at: it depends on the entry, so a fault cannot have it.
 fn field_of(fault: Fault, entry: &Entry, items: u8) -> u8
     ensures { result ≡ refusal_field items entry.now fault }
 {

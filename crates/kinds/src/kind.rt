@@ -40,7 +40,8 @@ pub trait Kind {
         ensures { result ≡ meaning.converse code };
 
     /// Whether lawful values u, v and w exist, among all natural numbers, with c from u to v, d from v to w and e from u to w.
-    /// A number that is no code fits in no triple.
+    /// A number that is no code fits in no triple. The three are numbers, as in the algebra; a struct of them would be taken apart at
+    /// each use.
     fn fits(c: u8, d: u8, e: u8) -> bool
         ensures test { result ≡ fit c d e }
         ensures exactly { Decides result (Fits meaning c d e) };

@@ -13,11 +13,12 @@ pub trait Notation: Kind {
     /// The words, as lists of bytes.
     ghost words: { List (List ℕ) };
 
-    /// The letter of the kind.
+    /// The letter of the kind, as files and reports have it: a byte, so that it is compared and put with no other step.
     fn letter() -> u8
         ensures { result ≡ initial };
 
-    /// The word of a base relation; a number that is no code has the empty word.
+    /// The word of a base relation; a number that is no code has the empty word. A code is a number in each kind, so that it can have no
+    /// `Display` of its own, and no `TryFrom` a text.
     fn word<'a>(code: u8) -> &'a str
         ensures { result.now ≡ slice_index_or words code [] };
 

@@ -118,10 +118,12 @@ impl Notation for Moments {
 
     ghost named = { Worded.named moment_words (Worded.unambiguous moment_words tt) };
 
+    // The byte of the format.
     fn letter() -> u8 {
         b'M'
     }
 
+    // A `match` each way, as a code is a number and has no `Display` of its own.
     fn word<'a>(code: u8) -> &'a str {
         match code {
             0 => "=",
@@ -141,7 +143,7 @@ impl Notation for Moments {
     }
 }
 
-/// The number.
+/// The number. Nothing derives it: each type is printed in its own way.
 impl fmt::Display for Moment {
     ghost output = { λ m. Some (decimal m.at) };
 

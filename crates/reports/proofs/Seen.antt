@@ -7,20 +7,21 @@ use Rattle.std.proofs.lemmas.Option.{none-some, same_Some}
 use Rattle.runs.specs.declared.answer.Sight.{Sight}
 use Rattle.runs.specs.declared.answer.Answer.{Answer}
 use Rattle.runs.specs.Told.{sight_in}
-use Rattle.reports.specs.Found.{or_else, first_sight}
+use Rattle.std.specs.Option.{option_or}
+use Rattle.reports.specs.Found.{first_sight}
 
 -- none of the answers shows anything
 none_there : {V C : Type 0} (answers : List (Answer V C)) → ((k : ℕ) (d : Answer V C) → k < length answers → None ≡ sight_in (get_or answers k d)) → None ≡ first_sight answers
 none_there [] none = refl
-none_there (a ∷ bs) none = none_there bs (λ k d l. none (suc k) d (omega arith)) ∙ ap (λ o. or_else o (first_sight bs)) (none 0 a (omega arith))
+none_there (a ∷ bs) none = none_there bs (λ k d l. none (suc k) d (omega arith)) ∙ ap (λ o. option_or o (first_sight bs)) (none 0 a (omega arith))
 
 -- the one at place i is the first that shows something
 first_there : {V C : Type 0} (answers : List (Answer V C)) (i : ℕ) (s : Sight V C) → i < length answers → ((d : Answer V C) → Some s ≡ sight_in (get_or answers i d))
     → ((k : ℕ) (d : Answer V C) → k < i → None ≡ sight_in (get_or answers k d)) → Some s ≡ first_sight answers
 first_there [] i s l here none = absurd (omega (arith, l))
-first_there (a ∷ bs) zero s l here none = ap (λ o. or_else o (first_sight bs)) (here a)
+first_there (a ∷ bs) zero s l here none = ap (λ o. option_or o (first_sight bs)) (here a)
 first_there (a ∷ bs) (suc i) s l here none =
-    first_there bs i s (omega (arith, l)) here (λ k d m. none (suc k) d (omega arith)) ∙ ap (λ o. or_else o (first_sight bs)) (none 0 a (omega arith))
+    first_there bs i s (omega (arith, l)) here (λ k d m. none (suc k) d (omega arith)) ∙ ap (λ o. option_or o (first_sight bs)) (none 0 a (omega arith))
 
 also : {A : Type 0} (o : Option A) (P : A → Type 0) → IsSomeAnd o P → IfSome o P
 also None P h = absurd h

@@ -12,7 +12,7 @@ use Rattle.tallies.specs.declared.claim.Claim.{Claim}
 use Rattle.rules.specs.declared.row.Row.{Row}
 use Rattle.rules.specs.Rows.{Proper}
 use Rattle.rules.specs.Costs.{of_rows, charge, cost}
-use Rattle.rules.specs.Steps.{Rules, Position, opening, advance, taken}
+use Rattle.rules.specs.Steps.{Rules, Position, opening, advance, taken, searched}
 use Rattle.rules.specs.Soundness.{Settled, cost_by}
 use Rattle.rules.proofs.Costs.{charges_join}
 use Rattle.statements.specs.declared.fault.Fault.{Fault}
@@ -24,11 +24,12 @@ use Rattle.runs.specs.declared.answer.Sight.{Sight}
 use Rattle.runs.specs.declared.answer.Answer.{Answer}
 use Rattle.runs.specs.declared.answer.Answer.TheVariants.{Unmade, Refused, Done, Entered, Looked, Took, Shown, Charged}
 use Rattle.runs.specs.Models.{drafting, closed, verdict, next}
-use Rattle.runs.specs.Answers.{Shows, Showing, AnswersScript}
+use Rattle.runs.specs.Answers.{SightOf, Showing, AnswersScript}
 use Rattle.runs.specs.Law.{At, OnClosed, SightLaw, Law, wanted}
 use Rattle.runs.specs.Told.{sight_in}
-use Rattle.reports.specs.Found.{or_else, first_sight, charges_in}
-use Rattle.reports.specs.Account.{Account, searched, account_at, account_of, AccountLaw, settling, Tells}
+use Rattle.std.specs.Option.{option_or}
+use Rattle.reports.specs.Found.{first_sight, charges_in}
+use Rattle.reports.specs.Account.{Account, account_at, account_of, AccountLaw, settling, Tells}
 
 pub IfOk-both : {T E : Type 0} (r : Result T E) (P Q : T → Type 0) → IfOk r P → IfOk r Q → IfOk r (λ v. P v × Q v)
 IfOk-both (Ok v) P Q p q = (p, q)
@@ -69,7 +70,7 @@ module _ {V C : Type 0} (m : Meaning V) (values : ℕ → List ℕ → ℕ → V
       let is : b ≡ Charged c = w.0 ∙ ap (λ (o : Option Fault). verdict o (Charged c) Refused) (person_passes p low (omega arith)) in
       let rest : Charging n rows s (p + 1) k bs = charging n rows s steps asked (p + 1) k bs (omega arith) (omega arith) w.1 in
       record {
-        none = ap (λ (z : Answer V C). or_else (sight_in z) (first_sight bs)) is ∙ rest.none;
+        none = ap (λ (z : Answer V C). option_or (sight_in z) (first_sight bs)) is ∙ rest.none;
         charges = ap (λ (z : Answer V C). charges_in (z ∷ bs)) is ∙ ap (λ (z : List C). c ∷ z) rest.charges;
       }
 
@@ -77,7 +78,7 @@ module _ {V C : Type 0} (m : Meaning V) (values : ℕ → List ℕ → ℕ → V
   record Showed (n : ℕ) (rows : List Row) (s : Position) (b : Answer V C) : Type 0 where
     sight : Sight V C
     is : b ≡ Shown sight
-    shows : Shows m values r n rows s sight
+    shows : SightOf m values r n rows s sight
 
   showed : (n : ℕ) (rows : List Row) (s : Position) (b : Answer V C) → n ≤ 12 → Showing m values r n rows s 12 b → Showed n rows s b
   showed n rows s Unmade h w = absurd w
@@ -90,7 +91,7 @@ module _ {V C : Type 0} (m : Meaning V) (values : ℕ → List ℕ → ℕ → V
   showed n rows s (Charged c) h w = absurd w
 
   -- The values that are shown, as a list.
-  values_listed : (n : ℕ) (rows : List Row) (s : Position) (sight : Sight V C) → Shows m values r n rows s sight
+  values_listed : (n : ℕ) (rows : List Row) (s : Position) (sight : Sight V C) → SightOf m values r n rows s sight
       → vec_items sight.values ≡ map (values n s.incumbent) (range_with_len 0 n)
   values_listed n rows s sight h =
       let d : V = values n s.incumbent 0 in
@@ -114,8 +115,8 @@ module _ {V C : Type 0} (m : Meaning V) (values : ℕ → List ℕ → ℕ → V
       record {
         tells = record {
           sight = show.sight;
-          shown = ap (λ (z : Answer V C). or_else (sight_in z) (first_sight (b ∷ c ∷ bs))) done ∙ ap (λ (z : Answer V C). or_else (sight_in z) (first_sight (c ∷ bs))) took
-              ∙ ap (λ (z : Answer V C). or_else (sight_in z) (first_sight bs)) show.is;
+          shown = ap (λ (z : Answer V C). option_or (sight_in z) (first_sight (b ∷ c ∷ bs))) done ∙ ap (λ (z : Answer V C). option_or (sight_in z) (first_sight (c ∷ bs))) took
+              ∙ ap (λ (z : Answer V C). option_or (sight_in z) (first_sight bs)) show.is;
           is = cc;
         };
         there = show.is;
@@ -185,6 +186,6 @@ module _ {V C : Type 0} (m : Meaning V) (values : ℕ → List ℕ → ℕ → V
   -- The account is as the law of runs has it.
   pub account_law : Monoid r.joining → (n : ℕ) (rows : List Row) (k : ℕ) (answers : List (Answer V C)) → n ≤ 12 → k ≤ 1000000 → Proper n rows
       → AnswersScript m values r (drafting n rows) (settling k) answers → Law m r (drafting n rows) (settling k) answers
-      → AccountLaw m r n rows (searched r k n rows) (account_of values r k n rows)
+      → AccountLaw m r n rows (searched r n rows k) (account_of values r k n rows)
   unfolding settling account_of searched
   account_law monoid n rows k answers few h proper w law = law_told monoid n rows k answers few h proper w law

@@ -6,7 +6,7 @@ use Rattle.kinds.specs.Meaning.{Meaning}
 use Rattle.tallies.specs.Groups.{span}
 use Rattle.rules.specs.declared.row.Row.{Row}
 use Rattle.rules.specs.Costs.{cost, charge, sheet_bound}
-use Rattle.rules.specs.Steps.{Rules, Position, opening, advance, finished}
+use Rattle.rules.specs.Steps.{Rules, Position, finished, searched}
 use Rattle.rules.specs.Soundness.{Assignment, cost_by, Settled}
 use Rattle.runs.specs.declared.call.Call.{Call}
 use Rattle.runs.specs.declared.call.Call.TheVariants.{Close, Search, Show, Charge}
@@ -27,10 +27,6 @@ pub record Account (V C : Type 0) : Type 0 where
 abbrev pub report_on : {V C : Type 0} → Print V C → (C → Bool) → ℕ → Account V C → List ℕ
 report_on p nothing number a = report_of p nothing number a.values a.cost a.floor a.finished a.charges
 
--- Where the search of a sheet stands that was closed and given so many steps.
-unfoldable pub searched : {C : Type 0} → Rules C → ℕ → ℕ → List Row → Position
-searched r steps n rows = advance r n rows steps (opening n)
-
 -- the account of a sheet whose search stands at s: the values that its kind gives the items for the incumbent, and the charges of the
 -- persons 1 to 20
 abbrev pub account_at : {V C : Type 0} → (ℕ → List ℕ → ℕ → V) → Rules C → ℕ → List Row → Position → Account V C
@@ -44,7 +40,7 @@ account_at values r n rows s = record {
 
 -- The account of a sheet of n items with its rows, after so many steps.
 unfoldable pub account_of : {V C : Type 0} → (ℕ → List ℕ → ℕ → V) → Rules C → ℕ → ℕ → List Row → Account V C
-account_of values r steps n rows = account_at values r n rows (searched r steps n rows)
+account_of values r steps n rows = account_at values r n rows (searched r n rows steps)
 
 -- What is promised of an account of a sheet whose search stands at s.
 pub record AccountLaw {V C : Type 0} (m : Meaning V) (r : Rules C) (n : ℕ) (rows : List Row) (s : Position) (a : Account V C) : Type 0 where

@@ -1,20 +1,17 @@
 -- What is shown and charged among the answers of a run.
 use Rattle.std.specs.Prelude.{ℕ, ◌<◌, List, [], ◌∷◌, Some, None, Option}
 use Rattle.std.specs.List.{filter_map}
+use Rattle.std.specs.Option.{option_or}
 use Rattle.runs.specs.declared.answer.Sight.{Sight}
 use Rattle.runs.specs.declared.answer.Answer.{Answer}
 use Rattle.runs.specs.declared.answer.Answer.TheVariants.{Shown}
 use Rattle.runs.specs.Law.{At}
 use Rattle.runs.specs.Told.{sight_in, charge_in}
 
-abbrev pub or_else : {A : Type 0} → Option A → Option A → Option A
-or_else (Some x) o = Some x
-or_else None o = o
-
 -- what is shown first
 abbrev pub first_sight : {V C : Type 0} → List (Answer V C) → Option (Sight V C)
 first_sight [] = None
-first_sight (a ∷ bs) = or_else (sight_in a) (first_sight bs)
+first_sight (a ∷ bs) = option_or (sight_in a) (first_sight bs)
 
 -- The sight stands at a place among the answers, and nothing is shown before it.
 pub record StandsFirst {V C : Type 0} (answers : List (Answer V C)) (sight : Sight V C) : Type 0 where

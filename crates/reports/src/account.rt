@@ -1,8 +1,9 @@
 // Accounts: a sheet is settled, and the report of it is written.
 ghost use Rattle.std.specs.Prelude.{◌≡◌, ◌≤◌, IfOk};
 ghost use Rattle.rules.specs.Soundness.{rules};
+ghost use Rattle.rules.specs.Steps.{searched};
 ghost use Rattle.reports.specs.Lines.{print, PutsOrWants};
-ghost use Rattle.reports.specs.Account.{report_on, searched, account_of, AccountLaw, settling as calls_of, Tells};
+ghost use Rattle.reports.specs.Account.{report_on, account_of, AccountLaw, settling as calls_of, Tells};
 
 use crate::found::{charges_in, first_sight};
 use crate::printed::{PrintedKind, PrintedTally};
@@ -41,7 +42,7 @@ fn settle<K: Kind, T: Tally>(
 ) -> Result<Vec<Answer<K::Value, T::Cost>>, AllocError>
     requires { steps ≤ 1000000 }
     ensures tells { IfOk result (λ v. Tells v.items (account_of K.Kind.values (rules K.Kind.meaning K.Kind.fit T.Joins.joining T.Tally.order) steps draft.items draft.rows.items)) }
-    ensures law { IfOk result (λ _. AccountLaw K.Kind.meaning (rules K.Kind.meaning K.Kind.fit T.Joins.joining T.Tally.order) draft.items draft.rows.items (searched (rules K.Kind.meaning K.Kind.fit T.Joins.joining T.Tally.order) steps draft.items draft.rows.items) (account_of K.Kind.values (rules K.Kind.meaning K.Kind.fit T.Joins.joining T.Tally.order) steps draft.items draft.rows.items)) }
+    ensures law { IfOk result (λ _. AccountLaw K.Kind.meaning (rules K.Kind.meaning K.Kind.fit T.Joins.joining T.Tally.order) draft.items draft.rows.items (searched (rules K.Kind.meaning K.Kind.fit T.Joins.joining T.Tally.order) draft.items draft.rows.items steps) (account_of K.Kind.values (rules K.Kind.meaning K.Kind.fit T.Joins.joining T.Tally.order) steps draft.items draft.rows.items)) }
 {
     let script = settling(heap, steps)?;
     replay(heap, draft, script.as_slice())
@@ -57,7 +58,7 @@ pub fn account<K: PrintedKind, T: PrintedTally>(
     buffer: &mut [u8],
 ) -> Result<usize, Fault>
     ensures bytes { PutsOrWants (report_on (print K.Notation.initial T.TallyLetter.initial K.PrintedKind.value_text T.PrintedTally.cost_text) (λ c. T.Tally.order c T.Joins.joining.empty) number (account_of K.Kind.values (rules K.Kind.meaning K.Kind.fit T.Joins.joining T.Tally.order) 1000000 draft.items draft.rows.items)) buffer.old buffer.new result }
-    ensures law { IfOk result (λ _. AccountLaw K.Kind.meaning (rules K.Kind.meaning K.Kind.fit T.Joins.joining T.Tally.order) draft.items draft.rows.items (searched (rules K.Kind.meaning K.Kind.fit T.Joins.joining T.Tally.order) 1000000 draft.items draft.rows.items) (account_of K.Kind.values (rules K.Kind.meaning K.Kind.fit T.Joins.joining T.Tally.order) 1000000 draft.items draft.rows.items)) }
+    ensures law { IfOk result (λ _. AccountLaw K.Kind.meaning (rules K.Kind.meaning K.Kind.fit T.Joins.joining T.Tally.order) draft.items draft.rows.items (searched (rules K.Kind.meaning K.Kind.fit T.Joins.joining T.Tally.order) draft.items draft.rows.items 1000000) (account_of K.Kind.values (rules K.Kind.meaning K.Kind.fit T.Joins.joining T.Tally.order) 1000000 draft.items draft.rows.items)) }
 {
     let answers = settle(heap, draft, STEPS)?;
     let charges = charges_in(heap, answers.as_slice())?;

@@ -23,5 +23,6 @@ fn fault_text(heap: Global, fault: &SheetFault) -> Result<String, AllocError>
 pub fn write_fault(heap: Global, fault: &SheetFault, buffer: &mut [u8]) -> Result<usize, Fault>
     ensures { PutsOrWants (fault_line fault.now) buffer.old buffer.new result }
 {
+    // By the rule for reports the text is put at the front of the caller's buffer, as a report is: one line each, of another text.
     put(buffer, fault_text(heap, fault)?.as_bytes())
 }

@@ -20,7 +20,8 @@ pub struct Report<'a, V, C> {
     pub charges: &'a [C],
 }
 
-// The costs of the first line, and whether the search has finished.
+// The costs of the first line, and whether the search has finished. Clauses name how a sheet is printed by `print ..` each time, since no
+// trait has both the kind and the tally.
 fn costs_text<T: PrintedTally>(heap: Global, shown: Shown<T::Cost>) -> Result<String, AllocError>
     ensures { IfOk result (λ s. string_bytes s ≡ costs_part T.PrintedTally.cost_text shown.cost shown.floor shown.finished) }
 {
@@ -86,6 +87,7 @@ fn push_lines<X: Copy, F: Fn(u64, X) -> Result<String, AllocError>>(
     ensures { (of : ℕ → X → List ℕ) → ((i : ℕ) (x : X) (r : _) → F.post line i x r → IfOk r (λ s. string_bytes s ≡ of i x)) → OnOk result (text.new.items ≡ text.old.items ++ lines_from of 1 members.now) }
 {
     for (i, member) in members.iter().enumerate() {
+        // A cast, as there is no `From` from a `usize` to a `u64`.
         text.extend_from_slice(line(i as u64 + 1, *member)?.as_bytes())?;
     }
     Ok(())

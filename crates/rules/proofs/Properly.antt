@@ -6,7 +6,8 @@ use Rattle.std.proofs.ByRecursion.{All-push, All-set, All-get_or, All-weaker}
 use Rattle.std.proofs.lemmas.Bool.{and_parts, and_from, le-leb, lt-ltb, leb-true, ltb-true}
 use Rattle.rules.specs.declared.row.Row.{Row}
 use Rattle.rules.specs.Rows.{Proper, with_weight}
-use Rattle.rules.specs.Properly.{between, row_proper, all_proper, proper}
+use Rattle.std.specs.Int.{is_in_range}
+use Rattle.rules.specs.Properly.{row_proper, all_proper, proper}
 
 -- a row is proper
 abbrev pub Sound : ℕ → Row → Type 0
@@ -25,7 +26,7 @@ pub measured : (n : ℕ) (r : Row) → Sound n r → Measured n r
 measured n r h =
     let a = and_parts (ltb r.low r.high) _ h in
     let b = and_parts (ltb r.high n) _ a.1 in
-    let c = and_parts (between 1 1000 r.weight) (between 1 20 r.person) b.1 in
+    let c = and_parts (is_in_range 1 1000 r.weight) (is_in_range 1 20 r.person) b.1 in
     let d = and_parts (leb 1 r.weight) (leb r.weight 1000) c.0 in
     let e = and_parts (leb 1 r.person) (leb r.person 20) c.1 in
     record {

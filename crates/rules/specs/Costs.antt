@@ -36,9 +36,15 @@ pair_bound j at_most b rows s = least at_most (pair_cost j rows s) (b - 1)
 abbrev pub sheet_bound : {C : Type 0} → Joining Claim C → (C → C → Bool) → ℕ → ℕ → List Row → C
 sheet_bound j at_most b n rows = span (of_rows j) (pair_bound j at_most b rows) 0 (pairs n)
 
+-- The cost of the first q pairs of a scenario.
+abbrev pub spent_on : {C : Type 0} → Joining Claim C → List Row → List ℕ → ℕ → C
+spent_on j rows scenario q = span (of_rows j) (λ s. pair_cost j rows s (slice_index scenario s)) 0 q
+
+-- The join of the lower bounds of the pairs from the q-th on, of p pairs.
+abbrev pub owed_from : {C : Type 0} → Joining Claim C → (C → C → Bool) → ℕ → List Row → ℕ → ℕ → C
+owed_from j at_most b rows p q = span (of_rows j) (pair_bound j at_most b rows) q (p - q)
+
 -- The lower bound of all scenarios of p pairs that share the first q codes of one: the cost of those pairs joined with the lower bounds
 -- of the remaining ones.
 abbrev pub prefix_bound : {C : Type 0} → Joining Claim C → (C → C → Bool) → ℕ → ℕ → List Row → ℕ → List ℕ → C
-prefix_bound j at_most b p rows q scenario = j.join
-    (span (of_rows j) (λ s. pair_cost j rows s (slice_index scenario s)) 0 q)
-    (span (of_rows j) (pair_bound j at_most b rows) q (p - q))
+prefix_bound j at_most b p rows q scenario = j.join (spent_on j rows scenario q) (owed_from j at_most b rows p q)

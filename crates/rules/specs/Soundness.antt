@@ -7,7 +7,7 @@ use Rattle.tallies.specs.Joins.{Joining}
 use Rattle.tallies.specs.declared.claim.Claim.{Claim}
 use Rattle.rules.specs.declared.row.Row.{Row}
 use Rattle.rules.specs.Rows.{Proper}
-use Rattle.rules.specs.Costs.{of_rows, cost, charge, pair_cost, pair_bound, sheet_bound}
+use Rattle.rules.specs.Costs.{of_rows, cost, charge, pair_cost, pair_bound, sheet_bound, spent_on}
 use Rattle.rules.specs.Orders.{scenario_of, Below, Before, index}
 use Rattle.rules.specs.Steps.{Rules, Position, best_cost, total, step, opening, advance, taken}
 
@@ -90,7 +90,7 @@ InParts r = (n : ℕ) (rows : List Row) (k l : ℕ) (s : Position)
 
 -- The costs of the pairs join to the cost of a scenario.
 abbrev pub PairsJoin : {C : Type 0} → Joining Claim C → Type 0
-PairsJoin j = (n : ℕ) (rows : List Row) (a : List ℕ) → Proper n rows → span (of_rows j) (λ s. pair_cost j rows s (slice_index a s)) 0 (pairs n) ≡ cost j rows (entry a)
+PairsJoin j = (n : ℕ) (rows : List Row) (a : List ℕ) → Proper n rows → spent_on j rows a (pairs n) ≡ cost j rows (entry a)
 
 -- The charges of the persons 1 to 20 join to the cost.
 abbrev pub ChargesJoin : {C : Type 0} → Joining Claim C → Type 0

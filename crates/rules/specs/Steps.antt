@@ -79,3 +79,7 @@ advance r n rows (suc m) s = cond (finished r n s) s (advance r n rows m (step r
 abbrev pub taken : {C : Type 0} → Rules C → ℕ → List Row → ℕ → Position → ℕ
 taken r n rows zero s = zero
 taken r n rows (suc m) s = cond (finished r n s) zero (suc (taken r n rows m (step r n rows s)))
+
+-- Where the search of a sheet of n items stands when k steps have been asked for since it was closed.
+unfoldable pub searched : {C : Type 0} → Rules C → ℕ → List Row → ℕ → Position
+searched r n rows k = advance r n rows k (opening n)

@@ -10,7 +10,8 @@ use tallies::claim::Claim;
 use tallies::tally::Joins;
 
 /// A statement as a sheet keeps it: two items, counted from 0, the lower first; the set of base relations that it allows, as bits; its
-/// weight and person; whether it is sworn, and whether it has been struck.
+/// weight and person; whether it is sworn, and whether it has been struck, two facts that no other field goes with. What a claim has of
+/// it stands here one by one, as the weight and the mark are changed alone.
 #[derive(Clone, Copy)]
 pub struct Row {
     pub low: u8,
@@ -23,7 +24,7 @@ pub struct Row {
 }
 
 impl Row {
-    /// Whether the row is one of a sheet with so many items.
+    /// Whether the row is one of a sheet with so many items. Entries are tested by the same limits in wider numbers.
     pub fn is_proper(self, items: u8) -> bool
         ensures { result ≡ row_proper items self }
     {
@@ -61,7 +62,7 @@ impl Row {
         place(self.low, self.high) == spot && self.is_broken(code)
     }
 
-    /// The cost joined with the penalty of the row.
+    /// The cost joined with the penalty of the row: a sum, and no other form of the row.
     pub fn added<J: Joins>(self, cost: J::Cost) -> J::Cost
         ensures { result ≡ J.Joins.joining.join cost (J.Joins.joining.penalty (claim_of self)) }
     {

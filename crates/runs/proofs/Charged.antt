@@ -21,7 +21,7 @@ use Rattle.runs.specs.declared.answer.Sight.{Sight}
 use Rattle.runs.specs.declared.answer.Answer.{Answer}
 use Rattle.runs.specs.declared.answer.Answer.TheVariants.{Refused, Took, Shown, Charged}
 use Rattle.runs.specs.Models.{Model, drafting, closed, verdict, next, after}
-use Rattle.runs.specs.Answers.{Shows, AnswersCall, AnswersScript}
+use Rattle.runs.specs.Answers.{SightOf, AnswersCall, AnswersScript}
 use Rattle.runs.specs.Law.{At, OnClosed, steps_of, is_done, reopens, Told, Charges}
 use Rattle.runs.proofs.Verdicts.{by_cases, sort, sort_for, sorted}
 use Rattle.runs.proofs.Places.{at_same, made}
@@ -128,7 +128,7 @@ module _ {V C : Type 0} (m : Meaning V) (values : ℕ → List ℕ → ℕ → V
     | inr h ↦ other h
   ]
 
-  pub shown_on : (y : Model) (c : Call) (sight : Sight V C) → AnswersCall m values r y c (Shown sight) → OnClosed (λ n rows s. Shows m values r n rows s sight) y
+  pub shown_on : (y : Model) (c : Call) (sight : Sight V C) → AnswersCall m values r y c (Shown sight) → OnClosed (λ n rows s. SightOf m values r n rows s sight) y
   shown_on (drafting n rows) c sight e = absurd (let low = sorted m values r (drafting n rows) c (Shown sight) e in omega (arith, low))
   shown_on (closed n rows s steps asked) (Size k) sight e = absurd (wrong n rows s steps asked (Size k) (Shown sight) (λ z. omega (arith, z)) (λ z. omega (arith, z)) e)
   shown_on (closed n rows s steps asked) (Enter i) sight e = absurd (wrong n rows s steps asked (Enter i) (Shown sight) (λ z. omega (arith, z)) (λ z. omega (arith, z)) e)
@@ -170,9 +170,9 @@ module _ {V C : Type 0} (m : Meaning V) (values : ℕ → List ℕ → ℕ → V
       → ((i n : ℕ) (rows : List Row) (s : Position) → Stands n rows s (after m r x (take i calls)) → Proper n rows) → Charges m r calls answers
   charges monoid x calls answers w proper l sight shown i c told =
       let at_l = made m values r x calls answers w l (Shown sight) shown in
-      let k = known (λ n rows s. Shows m values r n rows s sight) (after m r x (take l calls)) (shown_on (after m r x (take l calls)) at_l.call sight at_l.fits) in
+      let k = known (λ n rows s. SightOf m values r n rows s sight) (after m r x (take l calls)) (shown_on (after m r x (take l calls)) at_l.call sight at_l.fits) in
       span_same r.joining c (charge r.joining k.rows (entry k.s.incumbent)) 1 20
       (λ p lo hi. told_charge x calls answers w l k.n k.rows k.s k.stands (i p) p (c p) (told p lo (omega (arith, hi))))
       ∙ sym (span_along r.joining (charge r.joining k.rows (entry k.s.incumbent)) 1 20)
       ∙ charges_join r.joining monoid k.n k.rows (entry k.s.incumbent) (proper l k.n k.rows k.s k.stands)
-      ∙ sym k.so.cost_is
+      ∙ sym k.so.costs.cost_is

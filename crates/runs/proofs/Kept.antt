@@ -16,7 +16,7 @@ use Rattle.statements.specs.declared.fault.Fault.TheVariants.{Full}
 use Rattle.statements.specs.Faults.{first_fault}
 use Rattle.statements.specs.Drafts.{size_checks, entry_checks, enter_checks, row_of, numbered, is_there, strike_checks, reweigh_checks}
 use Rattle.statements.specs.Searches.{search_checks}
-use Rattle.statements.proofs.Accepted.{all_pass, between_parts, acceptable, sound_entry}
+use Rattle.statements.proofs.Accepted.{all_pass, in_range_parts, acceptable, sound_entry}
 use Rattle.runs.specs.declared.call.Call.{Call}
 use Rattle.runs.specs.declared.call.Call.TheVariants.{Size, Enter, Strike, Reweigh, Look, Close, Search, Show, Charge, Reopen}
 use Rattle.runs.specs.Models.{Model, drafting, closed, next, after}
@@ -47,7 +47,7 @@ module _ {V C : Type 0} (m : Meaning V) (laws : Laws m) (fit : ℕ → ℕ → �
 
   -- Each accepted call of a draft keeps its rows proper.
   sized : (k : ℕ) → first_fault (size_checks k) ≡ None → FineRows k []
-  sized k e = let p = between_parts 1 12 k (all_pass (size_checks k) e).0 in record { some = p.0; few = p.1; sound = refl }
+  sized k e = let p = in_range_parts 1 12 k (all_pass (size_checks k) e).0 in record { some = p.0; few = p.1; sound = refl }
 
   entered : (n : ℕ) (rows : List Row) (e : Entry) → FineRows n rows → first_fault (enter_checks m.codes n rows e) ≡ None → FineRows n (rows ++ (row_of m.converse m.codes e ∷ []))
   entered n rows e h none =
@@ -61,7 +61,7 @@ module _ {V C : Type 0} (m : Meaning V) (laws : Laws m) (fit : ℕ → ℕ → �
 
   -- the place of a statement that is there
   place_there : (rows : List Row) (i : ℕ) → is_there rows i ≡ true → i - 1 < length rows
-  place_there rows i h = let p = between_parts 1 (length rows) i h in omega (arith, p.0, p.1)
+  place_there rows i h = let p = in_range_parts 1 (length rows) i h in omega (arith, p.0, p.1)
 
   struck : (n : ℕ) (rows : List Row) (i : ℕ) → FineRows n rows → first_fault (strike_checks rows i) ≡ None → FineRows n (set rows (i - 1) (with_struck (numbered rows i)))
   struck n rows i h none = record {
@@ -73,7 +73,7 @@ module _ {V C : Type 0} (m : Meaning V) (laws : Laws m) (fit : ℕ → ℕ → �
   reweighed : (n : ℕ) (rows : List Row) (i w : ℕ) → FineRows n rows → first_fault (reweigh_checks rows i w) ≡ None → FineRows n (set rows (i - 1) (with_weight (numbered rows i) w))
   reweighed n rows i w h none =
       let p = all_pass (reweigh_checks rows i w) none in
-      let weight = between_parts 1 1000 w p.1.1.0 in
+      let weight = in_range_parts 1 1000 w p.1.1.0 in
       record {
         some = h.some;
         few = h.few;

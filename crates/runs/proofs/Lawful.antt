@@ -23,7 +23,7 @@ use Rattle.runs.specs.declared.answer.Sight.{Sight}
 use Rattle.runs.specs.declared.answer.Answer.{Answer}
 use Rattle.runs.specs.declared.answer.Answer.TheVariants.{Refused, Took, Shown}
 use Rattle.runs.specs.Models.{Model, drafting, closed, verdict, next, after}
-use Rattle.runs.specs.Answers.{Shows, AnswersCall, AnswersScript}
+use Rattle.runs.specs.Answers.{SightOf, AnswersCall, AnswersScript}
 use Rattle.runs.specs.Law.{OnClosed, WhileClosed, cursor_at, steps_of, stepped, wanted, SightLaw, Going, Law}
 use Rattle.runs.proofs.Verdicts.{sorted}
 use Rattle.runs.proofs.Places.{at_same, made, as_long, after_next}
@@ -58,7 +58,7 @@ module _ {V C : Type 0} (m : Meaning V) (laws : Laws m) (fit : ℕ → ℕ → �
     | inr e ↦ absurd (let room = leb-false (total r n) s.cursor e in let paced = h.paced in let all = h.all room in omega (arith, room, paced, all, l))
   ]
 
-  sight_law : (y : Model) (sight : Sight V C) (t k : ℕ) → Good y → Counted y t k → OnClosed (λ n rows s. Shows m values r n rows s sight) y → OnClosed (SightLaw m r sight k) y
+  sight_law : (y : Model) (sight : Sight V C) (t k : ℕ) → Good y → Counted y t k → OnClosed (λ n rows s. SightOf m values r n rows s sight) y → OnClosed (SightLaw m r sight k) y
   sight_law (drafting n rows) sight t k h e w = absurd w
   sight_law (closed n rows s steps asked) sight t k h e w = record {
     each = w.each;
@@ -67,11 +67,11 @@ module _ {V C : Type 0} (m : Meaning V) (laws : Laws m) (fit : ℕ → ℕ → �
         let real : Realises m n s.incumbent x =
         realises_same n s.incumbent (values n s.incumbent) x (λ i l. w.written i other l) (realises n s.incumbent h.fine.some h.fine.few h.sound.fitting) in
         let is : Settled m r n rows s x (best_cost r rows s) (finished r n s) = settled m laws fit j at_most n rows (proper_is n rows h.fine.sound) s h.sound x real in
-        subst (λ (c : C). Settled m r n rows s x c sight.shown.finished) (sym w.cost_is)
-        (subst (λ (v : Bool). Settled m r n rows s x (best_cost r rows s) v) (sym w.finished_is) is);
-    below = λ y law. subst (λ (c : C). at_most c (cost_by m j rows y) ≡ true) (sym w.floor_is)
+        subst (λ (c : C). Settled m r n rows s x c sight.shown.finished) (sym w.costs.cost_is)
+        (subst (λ (v : Bool). Settled m r n rows s x (best_cost r rows s) v) (sym w.costs.finished_is) is);
+    below = λ y law. subst (λ (c : C). at_most c (cost_by m j rows y) ≡ true) (sym w.costs.floor_is)
         (bound_below m laws fit j monoid at_most ranking n rows (proper_is n rows h.fine.sound) y law);
-    ends = λ l. w.finished_is ∙ asked_enough n rows s steps asked h (omega (arith, e.1, l));
+    ends = λ l. w.costs.finished_is ∙ asked_enough n rows s steps asked h (omega (arith, e.1, l));
   }
 
   going : (y : Model) (t k : ℕ) → Good y → Counted y t k → WhileClosed (Going m r t k) y

@@ -9,6 +9,7 @@ use Rattle.statements.specs.declared.entry.Entry.{Entry}
 use Rattle.statements.specs.Faults.{first_fault}
 use Rattle.statements.specs.Drafts.{size_checks, enter_checks, numbered, strike_checks, reweigh_checks, look_checks}
 use Rattle.statements.specs.Searches.{search_checks, show_checks, charge_checks}
+use Rattle.sheets.specs.Closed.{CostsShown}
 use Rattle.runs.specs.declared.call.Call.{Call}
 use Rattle.runs.specs.declared.call.Call.TheVariants.{Size, Enter, Strike, Reweigh, Look, Close, Search, Show, Charge, Reopen}
 use Rattle.runs.specs.declared.answer.Sight.{Sight}
@@ -21,14 +22,11 @@ abbrev pub entry_of : Row → Entry
 entry_of r = record { first = r.low + 1; second = r.high + 1; set = r.set; weight = r.weight; person = r.person; sworn = r.sworn }
 
 module _ {V C : Type 0} (m : Meaning V) (values : ℕ → List ℕ → ℕ → V) (r : Rules C) where
-  -- What a closed sheet shows: the values that its kind gives the items for the incumbent, their cost, the lower bound of the sheet, and
-  -- whether the search has finished.
-  pub record Shows (n : ℕ) (rows : List Row) (s : Position) (sight : Sight V C) : Type 0 where
+  -- What is seen of a closed sheet: the values that its kind gives the items for the incumbent, and what a show tells beside them.
+  pub record SightOf (n : ℕ) (rows : List Row) (s : Position) (sight : Sight V C) : Type 0 where
     pub each : length (vec_items sight.values) ≡ n
     pub written : (i : ℕ) (other : V) → i < n → slice_index_or (vec_items sight.values) i other ≡ values n s.incumbent i
-    pub cost_is : sight.shown.cost ≡ cost r.joining rows (entry s.incumbent)
-    pub floor_is : sight.shown.floor ≡ sheet_bound r.joining r.at_most r.codes n rows
-    pub finished_is : sight.shown.finished ≡ finished r n s
+    pub costs : CostsShown r n rows s sight.shown
 
   -- What a show on so many places answers: what is shown, or the refusal of its first check that fails.
   abbrev pub Showing : ℕ → List Row → Position → ℕ → Answer V C → Type 0
@@ -38,7 +36,7 @@ module _ {V C : Type 0} (m : Meaning V) (values : ℕ → List ℕ → ℕ → V
   Showing n rows s places (Entered i) = ⊥
   Showing n rows s places (Looked e b) = ⊥
   Showing n rows s places (Took t) = ⊥
-  Showing n rows s places (Shown sight) = (first_fault (show_checks n places) ≡ None) × Shows n rows s sight
+  Showing n rows s places (Shown sight) = (first_fault (show_checks n places) ≡ None) × SightOf n rows s sight
   Showing n rows s places (Charged c) = ⊥
 
   -- The answer that a call is given.

@@ -25,7 +25,7 @@ pub enum Answer<V, C> {
     Done,
     /// The number of the statement that was appended.
     Entered(u16),
-    /// What a statement says, and whether it has been struck.
+    /// What a statement says, and whether it has been struck, which is no part of what it says.
     Looked(Entry, bool),
     /// How many steps were taken.
     Took(u32),

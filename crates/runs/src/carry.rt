@@ -1,7 +1,8 @@
 // One call of a script, carried out by the call of the draft or of the closed sheet.
-ghost use Rattle.std.specs.Prelude.{◌≡◌, ℕ, IfOk};
+ghost use Rattle.std.specs.Prelude.{◌≡◌, ℕ, Ok, IfOk};
 ghost use Rattle.rules.specs.Soundness.{rules};
 ghost use Rattle.runs.specs.Models.{Model};
+ghost use Rattle.runs.specs.declared.answer.Answer.TheVariants.{Unmade};
 ghost use Rattle.runs.specs.declared.call.Call.TheVariants.{Close, Search, Charge};
 ghost use Rattle.runs.specs.declared.state.State.TheVariants.{Drafting, Closing};
 ghost use Rattle.runs.specs.States.{draft_view, closed_view, Views, told, Carries};
@@ -28,12 +29,14 @@ fn answer_of<V, C>(answered: Result<Answer<V, C>, Fault>) -> Answer<V, C>
     }
 }
 
-// A call of a draft that does not close it.
+// A call of a draft, but for the one that closes it, which is not made here: a `match`, as each call has its own answer. Clauses name the rules by `rules ..` each time,
+// since no trait has both the kind and the tally.
 fn told_by_draft<K: Kind, T: Tally>(
     draft: &mut Draft<K, T>,
     call: Call,
 ) -> Result<Answer<K::Value, T::Cost>, Fault>
-    ensures { (call ≡ Close → ⊥) → Carries K.Kind.meaning K.Kind.values (rules K.Kind.meaning K.Kind.fit T.Joins.joining T.Tally.order) (draft_view draft.old) call (Drafting draft.new) (told result) }
+    ensures carries { (call ≡ Close → ⊥) → Carries K.Kind.meaning K.Kind.values (rules K.Kind.meaning K.Kind.fit T.Joins.joining T.Tally.order) (draft_view draft.old) call (Drafting draft.new) (told result) }
+    ensures unmade { call ≡ Close → (result ≡ Ok Unmade) × (draft.new ≡ draft.old) }
 {
     Ok(match call {
         Call::Size(items) => {
@@ -58,7 +61,7 @@ fn told_by_draft<K: Kind, T: Tally>(
     })
 }
 
-// A call of a draft.
+// A call of a draft. Closing one takes it, so that it stands apart from the others.
 fn on_draft<K: Kind, T: Tally>(
     draft: Draft<K, T>,
     call: Call,
@@ -75,7 +78,7 @@ fn on_draft<K: Kind, T: Tally>(
     }
 }
 
-// A search of a closed sheet.
+// A search of a closed sheet. One line, as the next: each makes another call, and shared they would be a closure for it and a clause.
 fn told_by_search<K: Kind, T: Tally>(
     closed: &mut Closed<K, T>,
     steps: u32,
@@ -95,7 +98,7 @@ fn told_by_charge<K: Kind, T: Tally>(
     Ok(Answer::Charged(closed.charge(person)?))
 }
 
-// A call of a closed sheet.
+// A call of a closed sheet: a `match`, as each call has its own answer.
 fn on_closed<K: Kind, T: Tally>(
     heap: Global,
     closed: Closed<K, T>,
@@ -119,7 +122,7 @@ fn on_closed<K: Kind, T: Tally>(
     Ok((State::Closing(closed), answer_of(answered)))
 }
 
-// A call of a run, where the state stands for a model.
+// A call of a run, where the state stands for a model: a draft and a closed sheet are two types, with other calls each.
 pub(crate) fn carry<K: Kind, T: Tally>(
     heap: Global,
     state: State<K, T>,

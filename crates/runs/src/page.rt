@@ -18,7 +18,8 @@ pub(crate) fn page_of<K: Kind>(heap: Global, places: u8) -> Result<Vec<K::Value>
 {
     let scenario: [u8; 0] = [];
     let value = K::value(0, &scenario, 0);
-    // Filled by `resize`, which copies: `vec!` clones, and a clone need not be its source.
+    // Filled by `resize`, which copies: `vec!` clones, and a clone need not be its source. `copies` of `search` does so too; to share the
+    // two lines would take a public call.
     let mut page = Vec::new(heap);
     page.resize(usize::from(places), value)?;
     Ok(page)

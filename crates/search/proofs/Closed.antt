@@ -13,7 +13,8 @@ use Rattle.rules.specs.Orders.{Below, index}
 use Rattle.rules.proofs.Orders.{index_lt, below_zeros}
 use Rattle.rules.proofs.Cursors.{index_second}
 use Rattle.search.specs.Closed.{closes}
-use Rattle.rules.specs.Properly.{between, proper}
+use Rattle.std.specs.Int.{is_in_range}
+use Rattle.rules.specs.Properly.{proper}
 use Rattle.search.proofs.Blanks.{blank_set, blank_zeros}
 use Rattle.search.specs.Sheets.{all_below, Holds, number_at}
 
@@ -88,8 +89,8 @@ finished_is b p (Some a) none few h is =
 pub closes_parts : (n : ℕ) (rows : Vec Row Global) (b : ℕ) → closes n rows b ≡ true
     → (1 ≤ n) × (n ≤ 12) × (1 ≤ b) × (b ≤ 64) × (256 ≤ vec_capacity rows) × (proper n (vec_items rows) ≡ true)
 closes_parts n rows b h =
-    let both = and_parts (between 1 12 n && between 1 64 b) (leb 256 (vec_capacity rows) && proper n (vec_items rows)) h in
-    let sizes = and_parts (between 1 12 n) (between 1 64 b) both.0 in
+    let both = and_parts (is_in_range 1 12 n && is_in_range 1 64 b) (leb 256 (vec_capacity rows) && proper n (vec_items rows)) h in
+    let sizes = and_parts (is_in_range 1 12 n) (is_in_range 1 64 b) both.0 in
     let items = and_parts (leb 1 n) (leb n 12) sizes.0 in
     let codes = and_parts (leb 1 b) (leb b 64) sizes.1 in
     let list = and_parts (leb 256 (vec_capacity rows)) (proper n (vec_items rows)) both.1 in

@@ -10,9 +10,9 @@ use Rattle.tallies.specs.Joins.{Joining}
 use Rattle.tallies.specs.declared.claim.Claim.{Claim}
 use Rattle.tallies.proofs.Groups.{span_same}
 use Rattle.rules.specs.declared.row.Row.{Row}
-use Rattle.rules.specs.Costs.{of_rows, pair_cost, prefix_bound}
+use Rattle.rules.specs.Costs.{of_rows, pair_cost, prefix_bound, spent_on, owed_from}
 use Rattle.rules.specs.Steps.{Rules, some, unfit, refuted}
-use Rattle.search.specs.Tables.{spent_on, owed_from, Spent, Stands}
+use Rattle.search.specs.Tables.{Spent, Stands}
 use Rattle.rules.proofs.Orders.{shared_code}
 use Rattle.rules.proofs.Steps.{some_found, some_none}
 

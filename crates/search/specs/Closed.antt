@@ -6,7 +6,8 @@ use Rattle.tallies.specs.Joins.{Joining}
 use Rattle.tallies.specs.declared.claim.Claim.{Claim}
 use Rattle.rules.specs.declared.row.Row.{Row}
 use Rattle.search.specs.declared.sheet.Sheet.{Sheet}
-use Rattle.rules.specs.Properly.{between, proper}
+use Rattle.std.specs.Int.{is_in_range}
+use Rattle.rules.specs.Properly.{proper}
 use Rattle.search.specs.Sheets.{stands_at}
 use Rattle.rules.specs.Steps.{Rules, Position}
 
@@ -32,4 +33,4 @@ is_finished s = nat_le (s.codes ^ pairs s.items) (position_of s).cursor
 
 -- What can be closed: 1 to 12 items, 1 to 64 codes, and proper rows with room for 256.
 abbrev pub closes : ℕ → Vec Row Global → ℕ → Bool
-closes n rows b = (between 1 12 n && between 1 64 b) && (nat_le 256 (vec_capacity rows) && proper n (vec_items rows))
+closes n rows b = (is_in_range 1 12 n && is_in_range 1 64 b) && (nat_le 256 (vec_capacity rows) && proper n (vec_items rows))

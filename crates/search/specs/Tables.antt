@@ -3,20 +3,12 @@
 use Rattle.std.specs.Prelude.{◌≡◌, ℕ, ◌+◌, ◌-◌, ◌*◌, ◌<◌, ◌≤◌, Bool, false, List, length, slice_index, slice_index_or}
 use Rattle.points.specs.Scenarios.{pairs, entry}
 use Rattle.tallies.specs.Joins.{Joining}
-use Rattle.tallies.specs.Groups.{span}
 use Rattle.tallies.specs.declared.claim.Claim.{Claim}
 use Rattle.rules.specs.declared.row.Row.{Row}
-use Rattle.rules.specs.Costs.{of_rows, cost, pair_cost, pair_bound}
+use Rattle.rules.specs.Costs.{cost, pair_cost, spent_on, owed_from}
 use Rattle.rules.specs.Steps.{Rules, refuted}
 use Rattle.search.specs.Sheets.{Blank}
 use Rattle.search.specs.declared.step.Kept.{Kept}
-
--- The cost of the first q pairs of a scenario, and the join of the lower bounds of the others of p pairs.
-abbrev pub spent_on : {C : Type 0} → Joining Claim C → List Row → List ℕ → ℕ → C
-spent_on j rows a q = span (of_rows j) (λ s. pair_cost j rows s (slice_index a s)) 0 q
-
-abbrev pub owed_from : {C : Type 0} → Joining Claim C → (C → C → Bool) → ℕ → List Row → ℕ → ℕ → C
-owed_from j at_most b rows p q = span (of_rows j) (pair_bound j at_most b rows) q (p - q)
 
 -- A table has the costs of the pairs from k on, of p pairs, under each of b codes, with 64 places to a pair.
 abbrev pub Priced : {C : Type 0} → Joining Claim C → ℕ → List Row → ℕ → ℕ → List C → Type 0

@@ -18,6 +18,7 @@ pub struct Ledger<C> {
 }
 
 // A list of so many copies. `vec!` makes clones, of which nothing says for a type parameter that they equal the item; `resize` copies.
+// `page_of` of `runs` fills a page by it too; to share the two lines would take a public call.
 fn copies<C: Copy>(heap: Global, item: C, count: usize) -> Result<Vec<C>, AllocError>
     ensures { IfOk result (λ v. v.items ≡ replicate count item) }
 {

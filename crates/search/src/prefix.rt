@@ -6,7 +6,8 @@ ghost use Rattle.points.specs.Scenarios.{pairs as pairs_of, place as place_of};
 ghost use Rattle.rules.specs.Orders.{Below};
 ghost use Rattle.rules.specs.Steps.{some, unfit, refuted, first_passing};
 ghost use Rattle.search.specs.Closed.{rows_of, rules_of};
-ghost use Rattle.search.specs.Tables.{spent_on, Spent, Stands, Known};
+ghost use Rattle.rules.specs.Costs.{spent_on};
+ghost use Rattle.search.specs.Tables.{Spent, Stands, Known};
 
 use crate::table::Tables;
 use kinds::kind::Kind;
@@ -103,7 +104,8 @@ fn misfits<K: Kind>(firsts: &[u8], second: u8, thirds: &[u8]) -> bool
         .any(|(&first, &third)| !K::fits(first, second, third))
 }
 
-// The tables of a search with the scenario at its cursor, which has a code for each pair.
+// The tables of a search with the scenario at its cursor, which has a code for each pair. Clauses name the rules by `rules_of ..` each
+// time: no trait has both the kind and the tally, and one made for them would stand in public bounds.
 #[derive(Drop)]
 pub(crate) struct Prefixes<'a, T: Tally> {
     pub(crate) tables: &'a Tables<'a, T>,
@@ -160,7 +162,8 @@ impl<'a, T: Tally> Prefixes<'a, T> {
         self.closes_misfit::<K>(length - 1)
     }
 
-    // The length of the shortest refuted prefix, if one is refuted, where none shorter than `from` is.
+    // The length of the shortest refuted prefix, if one is refuted, where none shorter than `from` is. A loop over lengths, no `find`: it
+    // notes the cost of each prefix, which those of the next ones need.
     pub(crate) fn shortest<K: Kind>(
         &self,
         spent: &mut [T::Cost],

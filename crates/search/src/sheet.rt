@@ -9,7 +9,8 @@ use rules::row::Row;
 
 /// A closed sheet: a number of items and rows, the number of codes, and where its search stands: the incumbent, and the scenario at the
 /// cursor, which is none once the search has passed the last. The two have a code for each pair of items, at the front of their arrays,
-/// which have 66 places, as 12 items have 66 pairs: so closing and searching ask for no memory.
+/// which have 66 places, as 12 items have 66 pairs: so closing and searching ask for no memory. Items and rows stand one by one, as in a
+/// draft: a sheet is closed with any parts or refused, and a type for the two would ask more of whoever closes it.
 #[derive(Drop)]
 pub struct Sheet {
     pub(crate) items: u8,

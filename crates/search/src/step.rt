@@ -84,7 +84,8 @@ impl Sheet {
         ensures taken { result ≡ taken_of (rules_of self.old K.Kind.fit T.Joins.joining T.Tally.order) self.old.items (rows_of self.old) steps (position_of self.old) }
         ensures parts { (self.new.items ≡ self.old.items) × (self.new.rows ≡ self.old.rows) × (self.new.codes ≡ self.old.codes) }
     {
-        // The arrays are copied out here and back at the end, since the tables borrow the sheet while the search runs.
+        // The arrays are copied out here and back at the end, since the tables borrow the sheet while the search runs. `let .. else`, as the
+        // call ends here with 0 and not with none.
         let Some(mut cursor) = self.cursor else {
             return 0;
         };

@@ -25,6 +25,7 @@ const LONGEST_REPORT: usize = 4096;
 /// All of standard input, or as much as shows that it is longer than a file may be.
 fn read_file(rt: HostRuntime) -> io::Result<Vec<u8>> {
     let mut file = Vec::new(rt.alloc());
+    // A cast, as there is no `From` from a `usize` to a `u64`.
     rt.stdin().take(LARGEST as u64 + 1).read_to_end(&mut file)?;
     Ok(file)
 }
@@ -48,6 +49,7 @@ impl From<SheetFault> for Stop {
     }
 }
 
+// One impl for each error that stops a run: for all errors at once it would take in a file's fault too.
 impl From<Fault> for Stop {
     fn from(refusal: Fault) -> Stop {
         Stop::Failed(anyhow::Error::from(refusal))
@@ -101,6 +103,7 @@ fn settle_all(rt: HostRuntime, file: &[u8]) -> Result<(), Stop> {
     let mut reader = Reader::new(file);
     // A loop is proved to end; no file has as many heads as this one has turns.
     for number in 1..u64::MAX {
+        // `let .. else`, as the loop ends here and not the call.
         let Some(head) = reader.next_head()? else {
             break;
         };

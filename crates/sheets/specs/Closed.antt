@@ -5,7 +5,7 @@ use Rattle.kinds.specs.Meaning.{Meaning}
 use Rattle.kinds.specs.Pages.{Written}
 use Rattle.rules.specs.declared.row.Row.{Row}
 use Rattle.rules.specs.Costs.{cost, sheet_bound}
-use Rattle.rules.specs.Steps.{Rules, advance, taken, finished}
+use Rattle.rules.specs.Steps.{Rules, Position, advance, taken, finished}
 use Rattle.rules.specs.Soundness.{Assignment, cost_by, Sound, Settled}
 use Rattle.search.specs.declared.sheet.Sheet.{Sheet}
 use Rattle.search.specs.Closed.{rows_of, position_of}
@@ -35,13 +35,17 @@ pub record Keeps {V C : Type 0} (m : Meaning V) (r : Rules C) (s s' : Sheet) (k 
   pub most : t ≤ k
   pub all : finished r s.items (position_of s') ≡ false → t ≡ k
 
--- A show of a sheet: the values of the incumbent at the front of the page, whose rest stays; its cost, the lower bound of the sheet, and
--- whether the search has finished.
+-- What a show tells beside the values, of n items and their rows where the search stands at s: the cost of the incumbent, the lower
+-- bound of the sheet, and whether the search has finished.
+pub record CostsShown {C : Type 0} (r : Rules C) (n : ℕ) (rows : List Row) (s : Position) (a : Shown C) : Type 0 where
+  pub cost_is : a.cost ≡ cost r.joining rows (entry s.incumbent)
+  pub floor_is : a.floor ≡ sheet_bound r.joining r.at_most r.codes n rows
+  pub finished_is : a.finished ≡ finished r n s
+
+-- A show of a sheet: the values of the incumbent at the front of the page, whose rest stays; and what it tells beside them.
 pub record Shows {V C : Type 0} (values : ℕ → List ℕ → ℕ → V) (r : Rules C) (s : Sheet) (old new : List V) (a : Shown C) : Type 0 where
   pub written : Written s.items (values s.items (position_of s).incumbent) old new
-  pub cost_is : a.cost ≡ cost r.joining (rows_of s) (entry (position_of s).incumbent)
-  pub floor_is : a.floor ≡ sheet_bound r.joining r.at_most r.codes s.items (rows_of s)
-  pub finished_is : a.finished ≡ finished r s.items (position_of s)
+  pub costs : CostsShown r s.items (rows_of s) (position_of s) a
 
 -- What a show of a sound sheet promises of the values on the page, and of the lower bound that it answers: it is at most the cost of any
 -- assignment.

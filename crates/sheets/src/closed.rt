@@ -17,7 +17,8 @@ use statements::fault::Fault;
 use std::marker::PhantomData;
 use tallies::tally::{Joins, Tally};
 
-/// A sheet that takes no statements: a search for values that break those it has at least cost.
+/// A sheet that takes no statements: a search for values that break those it has at least cost. Clauses name its rules by `rules ..` each
+/// time, since no trait has both the kind and the tally.
 #[derive(Drop)]
 pub struct Closed<K: Kind, T: Tally> {
     pub(crate) sheet: Sheet,
@@ -26,7 +27,8 @@ pub struct Closed<K: Kind, T: Tally> {
     ghost sound: { ∥ SoundSheet K.Kind.meaning (rules K.Kind.meaning K.Kind.fit T.Joins.joining T.Tally.order) sheet ∥₁ },
 }
 
-/// What a show answers: the cost of the values, the lower bound of the sheet, and whether the search has finished.
+/// What a show answers: the cost of the values, the lower bound of the sheet, and whether the search has finished, which holds of the
+/// search and not of the two costs alone.
 #[derive(Clone, Copy)]
 pub struct Shown<C> {
     pub cost: C,
@@ -116,6 +118,7 @@ impl<K: Kind, T: Tally> Closed<K, T> {
         if !(1..=20).contains(&person) {
             return Err(Fault::Person);
         }
+        // The cast keeps the number, which is at most 20.
         Ok(self.sheet.charge::<T>(person as u8))
     }
 }

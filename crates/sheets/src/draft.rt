@@ -41,6 +41,7 @@ impl<K: Kind, T: Tally> Draft<K, T> {
             return Err(Fault::Size);
         }
         self.rows.clear();
+        // The cast keeps the number, which is at most 12.
         self.items = items as u8;
         Ok(())
     }
@@ -62,6 +63,7 @@ impl<K: Kind, T: Tally> Draft<K, T> {
         ensures { (result ≡ length self.old.rows.items + 1) × (self.new.items ≡ self.old.items) × (self.new.rows.items ≡ self.old.rows.items ++ row ∷ []) }
     {
         self.rows.push(row).unwrap();
+        // The cast keeps the number, which is at most 256.
         self.rows.len() as u16
     }
 
@@ -82,6 +84,7 @@ impl<K: Kind, T: Tally> Draft<K, T> {
         if !(1..=1000).contains(&weight) {
             return Err(Fault::Weight);
         }
+        // The cast keeps the number, which is at most 1,000.
         self.rows.entry_mut(at).weight = weight as u16;
         Ok(())
     }
@@ -100,6 +103,7 @@ impl<K: Kind, T: Tally> Draft<K, T> {
     fn find(&self, number: u32) -> Result<usize, Fault>
         ensures { ByChecks (look_checks self.now.rows.items number) result (λ i. (i ≡ number - 1) × (i < length self.now.rows.items)) (Unit {0}) }
     {
+        // Casts, as there is no `From` from a `u32` to a `usize`; they keep the number.
         if !(1..=self.rows.len()).contains(&(number as usize)) {
             return Err(Fault::Missing);
         }

@@ -9,7 +9,7 @@ use std::marker::PhantomData;
 use tallies::tally::{Joins, Tally};
 
 /// A sheet that takes statements: a number of items, 1 to 12, and a list of at most 256 rows, with memory for all of them
-/// and for the tables of a search.
+/// and for the tables of a search. Items and rows stand one by one, as in a closed sheet, which is made of any parts or refused.
 #[derive(Drop)]
 pub struct Draft<K: Kind, T: Tally> {
     pub(crate) items: u8,

@@ -46,6 +46,7 @@ impl Kind for Spells {
     ghost realises = { spells_realise };
 
     fn relation(first: Spell, second: Spell) -> u8 {
+        // A case as its number, which only a cast gives.
         relate(first, second) as u8
     }
 
@@ -85,10 +86,12 @@ impl Notation for Spells {
 
     ghost named = { Worded.named spell_words (Worded.unambiguous spell_words tt) };
 
+    // The byte of the format.
     fn letter() -> u8 {
         b'S'
     }
 
+    // A `match` each way, as a code is a number and has no `Display` of its own.
     fn word<'a>(code: u8) -> &'a str {
         match code {
             0 => "eq",

@@ -52,7 +52,7 @@ pub fn relate(first: Spell, second: Spell) -> Relation
     }
 }
 
-/// The start, a space, the end.
+/// The start, a space, the end. Nothing derives it: each type is printed in its own way.
 impl fmt::Display for Spell {
     ghost output = { λ s. Some (decimal s.start ++ 32 ∷ decimal s.end) };
 

@@ -4,7 +4,7 @@ use Rattle.std.specs.List.{AllByRecursion as Every}
 use Rattle.std.proofs.lemmas.Bool.{and_parts, cases_Bool, cond-true, cond-false, leb-true, ltb-true, ltb-false, eqb-false, not-true}
 use Rattle.statements.specs.declared.entry.Entry.{Entry}
 use Rattle.statements.specs.Faults.{Check, first_fault}
-use Rattle.rules.specs.Properly.{between}
+use Rattle.std.specs.Int.{is_in_range}
 use Rattle.statements.specs.Drafts.{entry_checks, row_of}
 use Rattle.rules.proofs.Properly.{Sound, sound_from}
 
@@ -19,8 +19,8 @@ all_pass (c ∷ cs) h = elim (cases_Bool c.0) [
     failed : Some c.1 ≡ None → ⊥
     failed e = let z : ◌≡◌ {A = ℕ} 0 1 = cc in omega arith
 
-pub between_parts : (low high x : ℕ) → between low high x ≡ true → (low ≤ x) × (x ≤ high)
-between_parts low high x h =
+pub in_range_parts : (low high x : ℕ) → is_in_range low high x ≡ true → (low ≤ x) × (x ≤ high)
+in_range_parts low high x h =
     let p = and_parts (leb low x) (leb x high) h in
     (leb-true low x p.0, leb-true x high p.1)
 
@@ -35,13 +35,13 @@ pub record Acceptable (items : ℕ) (e : Entry) : Type 0 where
 pub acceptable : (codes items : ℕ) (e : Entry) → first_fault (entry_checks codes items e) ≡ None → Acceptable items e
 acceptable codes items e h =
     let p = all_pass (entry_checks codes items e) h in
-    let both = and_parts (between 1 items e.first) (between 1 items e.second) p.0 in
+    let both = and_parts (is_in_range 1 items e.first) (is_in_range 1 items e.second) p.0 in
     record {
-      first = between_parts 1 items e.first both.0;
-      second = between_parts 1 items e.second both.1;
+      first = in_range_parts 1 items e.first both.0;
+      second = in_range_parts 1 items e.second both.1;
       apart = eqb-false e.first e.second (not-true (eqb e.first e.second) p.1.0);
-      weight = between_parts 1 1000 e.weight p.1.1.1.0;
-      person = between_parts 1 20 e.person p.1.1.1.1.0;
+      weight = in_range_parts 1 1000 e.weight p.1.1.1.0;
+      person = in_range_parts 1 20 e.person p.1.1.1.1.0;
     }
 
 -- of two unlike items, counted from 1, the lower is put first

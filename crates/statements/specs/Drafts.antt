@@ -10,7 +10,7 @@ use Rattle.statements.specs.declared.statement.Statement.{Statement}
 use Rattle.statements.specs.declared.fault.Fault.{Fault}
 use Rattle.statements.specs.declared.fault.Fault.TheVariants.{Size, Item, Same, Code, Weight, Person, Full, Missing, Struck}
 use Rattle.statements.specs.Faults.{Check, first_fault}
-use Rattle.rules.specs.Properly.{between}
+use Rattle.std.specs.Int.{is_in_range}
 
 -- A call is accepted where every check passes, and P then holds of its answer; else it is refused by the first check that fails, and U
 -- holds: nothing has changed.
@@ -20,7 +20,7 @@ ByChecks checks (Err f) P U = (first_fault checks ≡ Some f) × U
 
 -- Size: 1 to 12 items; the list is emptied.
 abbrev pub size_checks : ℕ → List Check
-size_checks n = (between 1 12 n, Size) ∷ []
+size_checks n = (is_in_range 1 12 n, Size) ∷ []
 
 -- The set of the converses of the codes below b that are in a set; a converse of 64 or more, which no lawful kind has, is left out.
 abbrev pub converses : (ℕ → ℕ) → ℕ → ℕ → ℕ
@@ -34,11 +34,11 @@ Turned m set turned = (e : ℕ) → Decides (has turned e) ((c : ℕ) × (c < m.
 -- The checks of an entry on a draft of so many items, in their order.
 abbrev pub entry_checks : ℕ → ℕ → Entry → List Check
 entry_checks codes items e =
-    (between 1 items e.first && between 1 items e.second, Item)
+    (is_in_range 1 items e.first && is_in_range 1 items e.second, Item)
     ∷ (not (e.first == e.second), Same)
     ∷ (nat_lt e.set (2 ^ codes), Code)
-    ∷ (between 1 1000 e.weight, Weight)
-    ∷ (between 1 20 e.person, Person)
+    ∷ (is_in_range 1 1000 e.weight, Weight)
+    ∷ (is_in_range 1 20 e.person, Person)
     ∷ []
 
 -- Enter: those, and then that there is room.
@@ -69,7 +69,7 @@ numbered rows i = slice_index_or rows (i - 1) no_row
 
 -- a statement has this number, counted from 1
 abbrev pub is_there : List Row → ℕ → Bool
-is_there rows i = between 1 (length rows) i
+is_there rows i = is_in_range 1 (length rows) i
 
 -- Strike: the statement is there and has not been struck; its mark is set, and no other row is touched.
 abbrev pub strike_checks : List Row → ℕ → List Check
@@ -77,7 +77,7 @@ strike_checks rows i = (is_there rows i, Missing) ∷ (not (numbered rows i).str
 
 -- Reweigh: a live statement is given another weight.
 abbrev pub reweigh_checks : List Row → ℕ → ℕ → List Check
-reweigh_checks rows i w = (is_there rows i, Missing) ∷ (not (numbered rows i).struck, Struck) ∷ (between 1 1000 w, Weight) ∷ []
+reweigh_checks rows i w = (is_there rows i, Missing) ∷ (not (numbered rows i).struck, Struck) ∷ (is_in_range 1 1000 w, Weight) ∷ []
 
 -- Look: the statement is there.
 abbrev pub look_checks : List Row → ℕ → List Check

@@ -1,6 +1,6 @@
 -- What is checked in the calls of a closed sheet.
 use Rattle.std.specs.Prelude.{ℕ, List, [], ◌∷◌, nat_le}
-use Rattle.rules.specs.Properly.{between}
+use Rattle.std.specs.Int.{is_in_range}
 use Rattle.statements.specs.declared.fault.Fault.TheVariants.{Steps, Short, Person}
 use Rattle.statements.specs.Faults.{Check}
 
@@ -14,4 +14,4 @@ show_checks n places = (nat_le n places, Short) ∷ []
 
 -- Charge: the person is 1 to 20.
 abbrev pub charge_checks : ℕ → List Check
-charge_checks p = (between 1 20 p, Person) ∷ []
+charge_checks p = (is_in_range 1 20 p, Person) ∷ []

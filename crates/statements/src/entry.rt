@@ -11,7 +11,7 @@ use kinds::kind::Kind;
 use rules::row::Row;
 
 /// A statement as it is entered: two items, counted from 1, in either order; the set of base relations from the first to the second, as
-/// bits; a weight, a person and whether it is sworn. Nothing of it has been checked.
+/// bits; a weight, a person and whether it is sworn, which no other field goes with. Nothing of it has been checked.
 #[derive(Clone, Copy)]
 pub struct Entry {
     pub first: u32,
@@ -33,7 +33,8 @@ impl Entry {
         Ok(self.kept::<K>())
     }
 
-    // Whether the entry may be appended to a draft of so many items.
+    // Whether the entry may be appended to a draft of so many items. A row is tested by the same limits in numbers of its own width, so
+    // that a test for both would widen them.
     fn check<K: Kind>(&self, items: u32) -> Result<(), Fault>
         ensures { ByChecks (entry_checks K.Kind.meaning.codes items self.now) result (λ _. Unit {0}) (Unit {0}) }
     {
@@ -66,6 +67,7 @@ impl Entry {
         } else {
             (self.second, self.first, converses::<K>(self.set))
         };
+        // Numbers that have been checked, cut to their width: a `TryFrom` would owe what to do where it fails.
         Row {
             low: (low - 1) as u8,
             high: (high - 1) as u8,

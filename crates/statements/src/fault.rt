@@ -38,7 +38,7 @@ pub enum Fault {
 }
 
 impl Fault {
-    /// The number of the refusal, 1 to 11; want of memory has 0.
+    /// The number of the refusal, 1 to 11; want of memory has 0. It is printed, and is the case's own, which only a cast gives.
     pub fn number(self) -> u8
         ensures { result ≡ number_of self }
     {

@@ -2,7 +2,7 @@
 ghost use Rattle.std.specs.Prelude.{◌<◌, ◌≤◌};
 
 /// What a person said of two items: that the base relation from the first to the second is in the set. The items are counted from 1,
-/// the lower first.
+/// the lower first. That it is sworn is a fact which no other field goes with.
 #[derive(Clone, Copy)]
 pub struct Statement {
     pub first: u8,

@@ -39,7 +39,8 @@ pub(crate) fn converses<K: Kind>(set: u64) -> u64
     union_over(set, |c| single(K::converse(c)))
 }
 
-/// The composition of a base relation with a set: the union of its compositions with the members.
+/// The composition of a base relation with a set: the union of its compositions with the members. It and the next are two levels of one
+/// union, each by `union_over`.
 fn compositions_from<K: Kind>(c: u8, second: u64) -> u64
     ensures { CompositionsFrom K.Kind.meaning c second result }
 {

@@ -37,6 +37,7 @@ impl Tally for ByWeight {
 
     ghost ranks = { ranking_by_weight };
 
+    // One `<=` for each type of cost: given once, in the trait, it would ask `Ord` of all costs.
     fn at_most(a: u32, b: u32) -> bool {
         a <= b
     }

@@ -12,7 +12,7 @@ pub struct Claim {
     pub weight: u16,
     /// The person who made the statement.
     pub person: u8,
-    /// Whether the statement is sworn.
+    /// Whether the statement is sworn: a fact of its own, which no other field goes with.
     pub sworn: bool,
 }
 

@@ -62,6 +62,7 @@ impl Tally for SwornFirst {
 
     ghost ranks = { ranking_sworn };
 
+    // One `<=` for each type of cost: given once, in the trait, it would ask `Ord` of all costs.
     fn at_most(a: SwornCost, b: SwornCost) -> bool {
         a <= b
     }
@@ -78,7 +79,7 @@ pub fn total(claims: &[Claim]) -> SwornCost
     joined::<SwornFirst>(claims)
 }
 
-/// The number of sworn statements, a slash, the weight of the others.
+/// The number of sworn statements, a slash, the weight of the others. Nothing derives it: each type is printed in its own way.
 impl fmt::Display for SwornCost {
     ghost output = { λ c. Some (decimal c.sworn ++ 47 ∷ decimal c.weight) };
 

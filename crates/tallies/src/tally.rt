@@ -35,7 +35,7 @@ pub trait Tally: Joins {
     // Whether a cost is at most another.
     ghost order: { Self.Cost → Self.Cost → Bool };
 
-    /// Whether the cost a is at most the cost b.
+    /// Whether the cost a is at most the cost b. The order is the tally's own, and no `Ord` of the costs.
     fn at_most(a: Self::Cost, b: Self::Cost) -> bool
         ensures { result ≡ order a b };
 

@@ -19,7 +19,7 @@ const GOOD: Entry = Entry {
     sworn: false,
 };
 
-/// The number of a refusal, if there is one.
+/// The number of a refusal, if there is one: tests tell refusals by the numbers that are printed.
 fn refusal<A: Copy>(answer: Result<A, Fault>) -> Option<u8> {
     answer.err().map(Fault::number)
 }

@@ -55,7 +55,7 @@ fn load<K: Kind + Notation, T: Tally + TallyLetter>(
     (answer, draft.items(), draft.entered())
 }
 
-/// Loads the first sheet of a file.
+/// Loads the first sheet of a file. Where no head is answered, no draft has been asked: zeros stand for its items and statements.
 fn read<K: Kind + Notation, T: Tally + TallyLetter>(
     file: &[u8],
     draft: &mut Draft<K, T>,

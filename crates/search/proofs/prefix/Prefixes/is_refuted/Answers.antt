@@ -2,7 +2,8 @@
 use Rattle.std.proofs.Common.{◌≡◌, ℕ, ◌≤◌, Bool, false, ◌||◌, List, length, get_or, ap, ◌∙◌, arith}
 use Rattle.std.proofs.lemmas.List.{get_or_default}
 use Rattle.search.specs.Closed.{rows_of, rules_of}
-use Rattle.search.specs.Tables.{spent_on, Owed}
+use Rattle.rules.specs.Costs.{spent_on}
+use Rattle.search.specs.Tables.{Owed}
 use Rattle.rules.specs.declared.row.Row.{Row}
 use Rattle.rules.specs.Steps.{Rules, refuted, unfit}
 use Rattle.points.specs.Scenarios.{pairs}

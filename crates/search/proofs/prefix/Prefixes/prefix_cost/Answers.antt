@@ -3,9 +3,8 @@ use Rattle.std.proofs.Common.{◌≡◌, ℕ, ◌+◌, ◌-◌, ◌*◌, ◌<◌
 use Rattle.std.proofs.ByRecursion.{All-get_or}
 use Rattle.std.proofs.lemmas.List.{get_or_default}
 use Rattle.points.specs.Scenarios.{pairs}
-use Rattle.rules.specs.Costs.{pair_cost}
+use Rattle.rules.specs.Costs.{pair_cost, spent_on}
 use Rattle.search.specs.Closed.{rows_of}
-use Rattle.search.specs.Tables.{spent_on}
 use Rattle.rules.proofs.Properly.{proper_is}
 use Rattle.rules.proofs.Costs.{pairs_push}
 use Rattle.search.proofs.Loops.{turn_joins}

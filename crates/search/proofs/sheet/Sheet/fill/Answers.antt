@@ -3,9 +3,8 @@ use Rattle.std.proofs.Common.{◌≡◌, ℕ, suc, ◌+◌, ◌-◌, ◌*◌, �
 use Rattle.std.proofs.lemmas.List.{length-set, get_or-set_same, get_or-set_other, get_or_default}
 use borrow.Rule.Slice.PartMut.{put_mid}
 use Rattle.tallies.specs.Groups.{span}
-use Rattle.rules.specs.Costs.{of_rows, pair_cost, pair_bound}
+use Rattle.rules.specs.Costs.{of_rows, pair_cost, pair_bound, owed_from}
 use Rattle.search.specs.Closed.{rows_of}
-use Rattle.search.specs.Tables.{owed_from}
 use Rattle.search.proofs.Prefixes.{part_long}
 use Rattle.search.proofs.Loops.{bounds_first, turn_joins, put_here, put_later}
 use Rattle.search.proofs.sheet.Sheet.fill.Goals as goal

@@ -3,14 +3,13 @@ use Rattle.std.proofs.Common.{◌≡◌, ℕ, ◌+◌, ◌^◌, ◌≤◌, List,
 use Rattle.std.proofs.lemmas.List.{get_or_default}
 use Rattle.points.specs.Scenarios.{pairs, entry}
 use Rattle.rules.specs.declared.row.Row.{Row}
-use Rattle.rules.specs.Costs.{cost}
+use Rattle.rules.specs.Costs.{cost, spent_on}
 use Rattle.rules.specs.Orders.{index, past}
 use Rattle.rules.specs.Steps.{position, step}
 use Rattle.rules.proofs.Properly.{proper_is}
 use Rattle.rules.proofs.Costs.{pairs_join}
 use Rattle.rules.proofs.Advances.{step_skips, step_holds}
 use Rattle.search.specs.Closed.{rows_of, rules_of}
-use Rattle.search.specs.Tables.{spent_on}
 use Rattle.search.proofs.Prefixes.{stands_kept, spent_kept}
 use Rattle.search.proofs.table.Tables.step.Goals as goal
 

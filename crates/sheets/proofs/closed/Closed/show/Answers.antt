@@ -32,7 +32,7 @@ returns g c =
     let floor = c.bound.ensures ∙ ap (λ (b : ℕ). sheet_bound j order b n (rows_of s)) sheet.coded in
     let done = by_kind kind.meaning kind.fit j order s sheet.coded (λ r. c.finished.result ≡ finished r n (position_of s)) c.finished.ensures in
     record {
-      answers = (search rules, record { written = written; cost_is = c.cost.ensures; floor_is = floor; finished_is = done });
+      answers = (search rules, record { written = written; costs = record { cost_is = c.cost.ensures; floor_is = floor; finished_is = done } });
       settles = shown_settles kind.meaning g.met.K.Kind.lawful kind.fit j g.met.T.Joins.monoid order g.met.T.Tally.ranks s new shown sheet c.cost.ensures floor done
           (realised s.some s.few enough sheet.sound.fitting);
     }
