@@ -86,7 +86,8 @@ impl<const MARKS: usize> Axis<MARKS> {
     }
 
     /// The rank of mark t of item i in the scenario: how many of all marks of the items stand strictly before it. The rank lemma:
-    /// ranks compare as the marks do, for any number of marks and any consistent comparison.
+    /// ranks compare as the marks do, for any number of marks and any consistent comparison. Items and scenario are told one by one, since
+    /// a scenario may be too short for its items.
     pub fn rank(&self, items: u8, scenario: &[u8], i: u8, t: u8) -> u32
         ensures compares { RankLemma (ℕ × ℕ) }
         ensures is { result ≡ mark_rank (drawn self.now.orders) MARKS items scenario.now i t }
