@@ -5,9 +5,9 @@ use Rattle.rules.specs.declared.row.Row.{Row}
 use Rattle.files.specs.declared.fault.LineFault.{LineFault}
 use Rattle.files.specs.declared.fault.LineFault.TheVariants.{TooLong}
 use Rattle.files.specs.declared.fault.Place.{Place}
-use Rattle.files.specs.declared.fault.SheetFault.{SheetFault}
 use Rattle.files.specs.declared.head.Head.{Head}
 use Rattle.files.specs.Drafts.{line_fault, row_in}
+use Rattle.files.specs.Faults.{SheetFault}
 use Rattle.files.specs.Heads.{is_head, head_in}
 use Rattle.files.specs.Loads.{body, body_fault, rows_in}
 use Rattle.files.specs.Sheets.{before, onward, head_place, located, nowhere}

@@ -3,8 +3,8 @@ use Rattle.std.proofs.Common.{◌≡◌, ℕ, suc, ◌+◌, ◌-◌, ◌≤◌, 
 use Rattle.std.proofs.lemmas.Bool.Decides.{nat_tests}
 use Rattle.std.proofs.lemmas.List.{drop-drop}
 use Rattle.files.specs.declared.fault.Place.{Place}
-use Rattle.files.specs.declared.fault.SheetFault.{SheetFault}
 use Rattle.files.specs.declared.head.Head.{Head}
+use Rattle.files.specs.Faults.{SheetFault}
 use Rattle.files.specs.Heads.{is_head, head_in}
 use Rattle.files.specs.Sheets.{before, onward, head_place, located, stray_fault, next_head, class_of, state_of}
 use Rattle.files.specs.declared.class.Class.TheVariants.{StatementLine}

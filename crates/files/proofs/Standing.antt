@@ -5,8 +5,8 @@ use Rattle.std.proofs.lemmas.Bool.{cases_Bool, leb-true, leb-false}
 use Rattle.std.proofs.lemmas.List.Sums.{sum_by-cons, sum_by-append}
 use Rattle.files.specs.declared.fault.LineFault.{LineFault}
 use Rattle.files.specs.declared.fault.Place.{Place}
-use Rattle.files.specs.declared.fault.SheetFault.{SheetFault}
 use Rattle.files.specs.declared.head.Head.{Head}
+use Rattle.files.specs.Faults.{SheetFault}
 use Rattle.files.specs.Heads.{is_head}
 use Rattle.files.specs.Sheets.{before, located}
 use Rattle.files.specs.Words.{Spelling}

@@ -5,10 +5,9 @@ use Rattle.std.proofs.lemmas.Bool.Decides.{nat_tests}
 use Rattle.std.specs.Option.{option_or}
 use Rattle.files.specs.declared.fault.LineFault.{LineFault}
 use Rattle.files.specs.declared.fault.Place.{Place}
-use Rattle.files.specs.declared.fault.SheetFault.{SheetFault}
 use Rattle.files.specs.declared.head.Head.{Head}
 use Rattle.files.specs.Drafts.{line_fault, row_in}
-use Rattle.files.specs.Faults.{answered}
+use Rattle.files.specs.Faults.{SheetFault, answered}
 use Rattle.files.specs.Heads.{is_head, head_fault, head_in, head_of}
 use Rattle.files.specs.Loads.{body, body_fault, rows_in}
 use Rattle.files.specs.Sheets.{before, onward, head_place, located, stray_fault}

@@ -6,6 +6,11 @@ use Rattle.files.specs.declared.fault.At.{At}
 use Rattle.files.specs.declared.fault.FieldFault.TheVariants.{NotNumber, NotWord, NotMark, Unknown}
 use Rattle.files.specs.declared.fault.LineFault.{LineFault}
 use Rattle.files.specs.declared.fault.LineFault.TheVariants.{TooLong, NoHead, FieldCount, Field, Draft}
+use Rattle.files.specs.declared.fault.Place.{Place}
+
+-- a line's fault with its place: antt has no name for an alias, so the alias of `src` has one here
+abbrev pub SheetFault : Type 0
+SheetFault = At Place LineFault
 
 -- the number of a fault; a draft's fault has its own
 abbrev pub fault_number : LineFault → ℕ

@@ -4,9 +4,9 @@ use Rattle.std.specs.Option.{option_map, option_or, option_to_list}
 use Rattle.rules.specs.declared.row.Row.{Row}
 use Rattle.files.specs.declared.fault.LineFault.TheVariants.{TooLong}
 use Rattle.files.specs.declared.fault.Place.{Place}
-use Rattle.files.specs.declared.fault.SheetFault.{SheetFault}
 use Rattle.files.specs.declared.head.Head.{Head}
 use Rattle.files.specs.Drafts.{line_fault, row_in}
+use Rattle.files.specs.Faults.{SheetFault}
 use Rattle.files.specs.Loads.{body, rows_in}
 use Rattle.files.specs.Heads.{is_head, head_in, head_of}
 use Rattle.files.specs.Parts.{lines}

@@ -2,8 +2,8 @@
 use Rattle.std.specs.Prelude.{◌≡◌, ℕ, ◌+◌, ◌-◌, List, [], ◌∷◌, ◌++◌, map, take, drop, Some, None, Ok, Err, Option, Result}
 use Rattle.rules.specs.declared.row.Row.{Row}
 use Rattle.files.specs.declared.fault.Place.{Place}
-use Rattle.files.specs.declared.fault.SheetFault.{SheetFault}
 use Rattle.files.specs.Drafts.{line_fault, row_in}
+use Rattle.files.specs.Faults.{SheetFault}
 use Rattle.files.specs.Sheets.{before, onward}
 use Rattle.files.specs.Words.{Spelling}
 

@@ -5,12 +5,12 @@ use Rattle.std.specs.List.{position_or_len}
 use Rattle.files.specs.declared.fault.LineFault.{LineFault}
 use Rattle.files.specs.declared.fault.LineFault.TheVariants.{TooLong, NoHead}
 use Rattle.files.specs.declared.fault.Place.{Place}
-use Rattle.files.specs.declared.fault.SheetFault.{SheetFault}
 use Rattle.files.specs.declared.head.Head.{Head}
 use Rattle.files.specs.declared.class.Class.{Class}
 use Rattle.files.specs.declared.class.Class.TheVariants.{HeadLine, StatementLine}
 use Rattle.files.specs.declared.class.State.{State}
 use Rattle.files.specs.declared.class.State.TheVariants.{NoSheet, InSheet}
+use Rattle.files.specs.Faults.{SheetFault}
 use Rattle.files.specs.Heads.{is_head, line_fits, head_in}
 
 -- a line's class

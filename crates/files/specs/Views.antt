@@ -4,10 +4,10 @@ use Rattle.rules.specs.declared.row.Row.{Row}
 use Rattle.files.specs.declared.fault.FieldFault.TheVariants.{Unknown}
 use Rattle.files.specs.declared.fault.LineFault.TheVariants.{TooLong, NoHead, Field}
 use Rattle.files.specs.declared.fault.Place.{Place}
-use Rattle.files.specs.declared.fault.SheetFault.{SheetFault}
 use Rattle.files.specs.declared.head.Head.{Head}
 use Rattle.files.specs.declared.reader.Reader.{Reader}
 use Rattle.files.specs.declared.reader.Spot.{Spot}
+use Rattle.files.specs.Faults.{SheetFault}
 use Rattle.files.specs.Loads.{body, body_fault, rows_in}
 use Rattle.files.specs.Parts.{lines}
 use Rattle.files.specs.Sheets.{before, head_place, next_head, nowhere}

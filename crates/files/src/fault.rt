@@ -68,13 +68,15 @@ pub struct Place {
     pub line: u32,
 }
 
-/// Why a file is refused: the fault of a line, and the place of the line. It has the fields of `At<Place, LineFault>`, and is a type of
-/// its own since definitions, also of crates that use this one, name it.
+/// A fault with its place: the number of a field, until `?` makes it the fault of the line; or where a line stands.
 #[derive(Clone, Copy, PartialEq, Eq)]
-pub struct SheetFault {
-    pub place: Place,
-    pub fault: LineFault,
+pub struct At<P, E> {
+    pub place: P,
+    pub fault: E,
 }
+
+/// Why a file is refused: the fault of a line, and the place of the line.
+pub type SheetFault = At<Place, LineFault>;
 
 // A caller asks the fault of a sheet as it asks that of a line, so the two calls stand here too.
 impl SheetFault {
@@ -91,13 +93,6 @@ impl SheetFault {
     {
         self.fault.field()
     }
-}
-
-/// A fault with its place, before `?` turns it into the fault of what holds it.
-#[derive(Drop)]
-pub struct At<P, E> {
-    pub place: P,
-    pub fault: E,
 }
 
 /// The answer, its fault with this place.
@@ -120,16 +115,5 @@ impl From<At<u8, Fault>> for LineFault {
 
     fn from(e: At<u8, Fault>) -> LineFault {
         LineFault::Draft(e.place, e.fault)
-    }
-}
-
-impl From<At<Place, LineFault>> for SheetFault {
-    ghost from_gives = { λ e r. r ≡ record { place = e.place; fault = e.fault } };
-
-    fn from(e: At<Place, LineFault>) -> SheetFault {
-        SheetFault {
-            place: e.place,
-            fault: e.fault,
-        }
     }
 }

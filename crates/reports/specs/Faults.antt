@@ -1,8 +1,7 @@
 -- The line that is printed of a fault.
 use Rattle.std.specs.Prelude.{ℕ, List, [], ◌∷◌, ◌++◌, codes}
 use Rattle.std.specs.Fmt.{decimal}
-use Rattle.files.specs.declared.fault.SheetFault.{SheetFault}
-use Rattle.files.specs.Faults.{fault_number, fault_field}
+use Rattle.files.specs.Faults.{SheetFault, fault_number, fault_field}
 
 -- `fault 14 sheet 1 line 1 field 2`
 abbrev pub fault_line : SheetFault → List ℕ
