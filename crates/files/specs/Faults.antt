@@ -8,7 +8,7 @@ use Rattle.files.specs.declared.fault.LineFault.{LineFault}
 use Rattle.files.specs.declared.fault.LineFault.TheVariants.{TooLong, NoHead, FieldCount, Field, Draft}
 use Rattle.files.specs.declared.fault.Place.{Place}
 
--- a line's fault with its place: antt has no name for an alias, so the alias of `src` has one here
+-- why a file is refused, by the name that the code gives it: the fault of a line, and the place of the line
 abbrev pub SheetFault : Type 0
 SheetFault = At Place LineFault
 

@@ -34,7 +34,7 @@ pub enum LineFault {
 }
 
 impl LineFault {
-    /// The number of the fault, 12 to 17; a draft's fault has its own.
+    /// The number of the fault, 12 to 17; a draft's fault has its own. What is inside a case counts too, so no discriminant can tell it.
     pub fn number(&self) -> u8
         ensures { result ≡ fault_number self.now }
     {
@@ -69,7 +69,7 @@ pub struct Place {
 }
 
 /// A fault with its place: the number of a field, until `?` makes it the fault of the line; or where a line stands.
-#[derive(Clone, Copy, PartialEq, Eq)]
+#[derive(Clone, Copy, Drop, PartialEq, Eq)]
 pub struct At<P, E> {
     pub place: P,
     pub fault: E,
@@ -102,6 +102,7 @@ pub fn placed<P: Drop, T, E>(place: P, answer: Result<T, E>) -> Result<T, At<P, 
     answer.map_err(|fault| At { place, fault })
 }
 
+/// The fault of a field, as that of its line. Each of the two errors has an impl, as it becomes a case of its own.
 impl From<At<u8, FieldFault>> for LineFault {
     ghost from_gives = { λ e r. r ≡ Field e.place e.fault };
 
@@ -110,6 +111,7 @@ impl From<At<u8, FieldFault>> for LineFault {
     }
 }
 
+/// The refusal of a draft, as the fault of the line that it refuses.
 impl From<At<u8, Fault>> for LineFault {
     ghost from_gives = { λ e r. r ≡ Draft e.place e.fault };
 
