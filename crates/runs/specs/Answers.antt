@@ -30,16 +30,11 @@ module _ {V C : Type 0} (m : Meaning V) (values : ℕ → List ℕ → ℕ → V
 
   -- What a show on so many places answers: what is shown, or the refusal of its first check that fails.
   abbrev pub Showing : ℕ → List Row → Position → ℕ → Answer V C → Type 0
-  Showing n rows s places Unmade = ⊥
   Showing n rows s places (Refused f) = first_fault (show_checks n places) ≡ Some f
-  Showing n rows s places Done = ⊥
-  Showing n rows s places (Entered i) = ⊥
-  Showing n rows s places (Looked e b) = ⊥
-  Showing n rows s places (Took t) = ⊥
   Showing n rows s places (Shown sight) = (first_fault (show_checks n places) ≡ None) × SightOf n rows s sight
-  Showing n rows s places (Charged c) = ⊥
+  Showing n rows s places a = ⊥
 
-  -- The answer that a call is given.
+  -- The answer that a call is given. A call that its state does not take is not made.
   abbrev pub AnswersCall : Model → Call → Answer V C → Type 0
   AnswersCall (drafting n rows) (Size k) a = a ≡ by_checks (size_checks k) Done Refused
   AnswersCall (drafting n rows) (Enter e) a = a ≡ by_checks (enter_checks m.codes n rows e) (Entered (length rows + 1)) Refused
@@ -47,20 +42,11 @@ module _ {V C : Type 0} (m : Meaning V) (values : ℕ → List ℕ → ℕ → V
   AnswersCall (drafting n rows) (Reweigh i w) a = a ≡ by_checks (reweigh_checks rows i w) Done Refused
   AnswersCall (drafting n rows) (Look i) a = a ≡ by_checks (look_checks rows i) (Looked (entry_of (numbered rows i)) (numbered rows i).struck) Refused
   AnswersCall (drafting n rows) Close a = a ≡ Done
-  AnswersCall (drafting n rows) (Search k) a = a ≡ Unmade
-  AnswersCall (drafting n rows) (Show places) a = a ≡ Unmade
-  AnswersCall (drafting n rows) (Charge p) a = a ≡ Unmade
-  AnswersCall (drafting n rows) Reopen a = a ≡ Unmade
-  AnswersCall (closed n rows s steps asked) (Size k) a = a ≡ Unmade
-  AnswersCall (closed n rows s steps asked) (Enter e) a = a ≡ Unmade
-  AnswersCall (closed n rows s steps asked) (Strike i) a = a ≡ Unmade
-  AnswersCall (closed n rows s steps asked) (Reweigh i w) a = a ≡ Unmade
-  AnswersCall (closed n rows s steps asked) (Look i) a = a ≡ Unmade
-  AnswersCall (closed n rows s steps asked) Close a = a ≡ Unmade
   AnswersCall (closed n rows s steps asked) (Search k) a = a ≡ by_checks (search_checks k) (Took (taken r n rows k s)) Refused
   AnswersCall (closed n rows s steps asked) (Show places) a = Showing n rows s places a
   AnswersCall (closed n rows s steps asked) (Charge p) a = a ≡ by_checks (charge_checks p) (Charged (charge r.joining rows (entry s.incumbent) p)) Refused
   AnswersCall (closed n rows s steps asked) Reopen a = a ≡ Done
+  AnswersCall x c a = a ≡ Unmade
 
   -- The answers of a whole script, from x on.
   abbrev pub AnswersScript : Model → List Call → List (Answer V C) → Type 0

@@ -36,73 +36,31 @@ cursor_at (closed n rows s steps asked) = s.cursor
 
 -- How many steps an answer tells of, and whether it tells that a search was accepted.
 abbrev pub steps_of : {V C : Type 0} → Answer V C → ℕ
-steps_of Unmade = 0
-steps_of (Refused f) = 0
-steps_of Done = 0
-steps_of (Entered i) = 0
-steps_of (Looked e b) = 0
 steps_of (Took t) = t
-steps_of (Shown sight) = 0
-steps_of (Charged c) = 0
+steps_of a = 0
 
 abbrev pub is_took : {V C : Type 0} → Answer V C → Bool
-is_took Unmade = false
-is_took (Refused f) = false
-is_took Done = false
-is_took (Entered i) = false
-is_took (Looked e b) = false
 is_took (Took t) = true
-is_took (Shown sight) = false
-is_took (Charged c) = false
+is_took a = false
 
 -- the call was carried out and had nothing to tell
 abbrev pub is_done : {V C : Type 0} → Answer V C → Bool
-is_done Unmade = false
-is_done (Refused f) = false
 is_done Done = true
-is_done (Entered i) = false
-is_done (Looked e b) = false
-is_done (Took t) = false
-is_done (Shown sight) = false
-is_done (Charged c) = false
+is_done a = false
 
 -- How many steps an accepted search asks for.
 abbrev pub asks : {V C : Type 0} → Call → Answer V C → ℕ
-asks (Size k) a = 0
-asks (Enter e) a = 0
-asks (Strike i) a = 0
-asks (Reweigh i w) a = 0
-asks (Look i) a = 0
-asks Close a = 0
 asks (Search k) a = cond (is_took a) k 0
-asks (Show places) a = 0
-asks (Charge p) a = 0
-asks Reopen a = 0
+asks c a = 0
 
 -- Whether a draft was closed, and whether a closed sheet was reopened.
 abbrev pub closes : {V C : Type 0} → Call → Answer V C → Bool
-closes (Size k) a = false
-closes (Enter e) a = false
-closes (Strike i) a = false
-closes (Reweigh i w) a = false
-closes (Look i) a = false
 closes Close a = is_done a
-closes (Search k) a = false
-closes (Show places) a = false
-closes (Charge p) a = false
-closes Reopen a = false
+closes c a = false
 
 abbrev pub reopens : {V C : Type 0} → Call → Answer V C → Bool
-reopens (Size k) a = false
-reopens (Enter e) a = false
-reopens (Strike i) a = false
-reopens (Reweigh i w) a = false
-reopens (Look i) a = false
-reopens Close a = false
-reopens (Search k) a = false
-reopens (Show places) a = false
-reopens (Charge p) a = false
 reopens Reopen a = is_done a
+reopens c a = false
 
 -- The sum of g over the places before i since a draft was last closed, where the sum so far is `sum`; closing a draft sets it to 0.
 abbrev pub since : {V C : Type 0} → (Call → Answer V C → ℕ) → ℕ → List Call → List (Answer V C) → ℕ → ℕ
@@ -146,14 +104,14 @@ module _ {V C : Type 0} (m : Meaning V) (r : Rules C) where
       → ((p : ℕ) → 1 ≤ p → p ≤ 20 → Told calls answers l (i p) p (c p)) → span r.joining c 1 20 ≡ sight.shown.cost
 
   -- Where a search stands after so many steps answered and asked for: each step has moved the cursor on by one or more, there were fewer
-  -- steps than scenarios, and it has finished once one fewer than there are scenarios were asked for. The steps are those that follow from
-  -- the script.
-  pub record Going (steps asked : ℕ) (n : ℕ) (s : Position) (counted wants : ℕ) : Type 0 where
-    pub moved : steps + 1 ≤ s.cursor
-    pub bounded : steps ≤ total r n - 1
-    pub ends : total r n - 1 ≤ asked → finished r n s ≡ true
-    pub by_script : steps ≡ counted
-    pub asked_script : asked ≡ wants
+  -- steps than scenarios, and it has finished once one fewer than there are scenarios were asked for. The answers tell `counted` and
+  -- `wants`; `steps` and `asked` follow from the script, and are the same.
+  pub record Going (counted wants : ℕ) (n : ℕ) (s : Position) (steps asked : ℕ) : Type 0 where
+    pub moved : counted + 1 ≤ s.cursor
+    pub bounded : counted ≤ total r n - 1
+    pub ends : total r n - 1 ≤ wants → finished r n s ≡ true
+    pub by_script : counted ≡ steps
+    pub asked_script : wants ≡ asked
 
   -- The law of a run that starts at x, by its calls and answers.
   pub record Law (x : Model) (calls : List Call) (answers : List (Answer V C)) : Type 0 where

@@ -17,7 +17,7 @@ pub data Model : Type 0 where
   drafting : ℕ → List Row → Model
   closed : ℕ → List Row → Position → ℕ → ℕ → Model
 
--- The first where all checks pass, else the second of the refusal.
+-- good where there is no fault, else bad with the fault
 abbrev pub verdict : {A : Type 0} → Option Fault → A → (Fault → A) → A
 verdict None good bad = good
 verdict (Some f) good bad = bad f
@@ -33,23 +33,11 @@ module _ {V C : Type 0} (m : Meaning V) (r : Rules C) where
   next (drafting n rows) (Enter e) = by_checks (enter_checks m.codes n rows e) (drafting n (rows ++ (row_of m.converse m.codes e ∷ []))) (λ _. drafting n rows)
   next (drafting n rows) (Strike i) = by_checks (strike_checks rows i) (drafting n (slice_set rows (i - 1) (with_struck (numbered rows i)))) (λ _. drafting n rows)
   next (drafting n rows) (Reweigh i w) = by_checks (reweigh_checks rows i w) (drafting n (slice_set rows (i - 1) (with_weight (numbered rows i) w))) (λ _. drafting n rows)
-  next (drafting n rows) (Look i) = drafting n rows
   next (drafting n rows) Close = closed n rows (opening n) 0 0
-  next (drafting n rows) (Search k) = drafting n rows
-  next (drafting n rows) (Show places) = drafting n rows
-  next (drafting n rows) (Charge p) = drafting n rows
-  next (drafting n rows) Reopen = drafting n rows
-  next (closed n rows s steps asked) (Size k) = closed n rows s steps asked
-  next (closed n rows s steps asked) (Enter e) = closed n rows s steps asked
-  next (closed n rows s steps asked) (Strike i) = closed n rows s steps asked
-  next (closed n rows s steps asked) (Reweigh i w) = closed n rows s steps asked
-  next (closed n rows s steps asked) (Look i) = closed n rows s steps asked
-  next (closed n rows s steps asked) Close = closed n rows s steps asked
   next (closed n rows s steps asked) (Search k) = by_checks (search_checks k)
       (closed n rows (advance r n rows k s) (steps + taken r n rows k s) (asked + k)) (λ _. closed n rows s steps asked)
-  next (closed n rows s steps asked) (Show places) = closed n rows s steps asked
-  next (closed n rows s steps asked) (Charge p) = closed n rows s steps asked
   next (closed n rows s steps asked) Reopen = drafting n rows
+  next x c = x
 
   -- What a list of calls makes of it.
   abbrev pub after : Model → List Call → Model
