@@ -69,7 +69,7 @@ pub struct Place {
 }
 
 /// A fault with its place: the number of a field, until `?` makes it the fault of the line; or where a line stands.
-#[derive(Clone, Copy, Drop, PartialEq, Eq)]
+#[derive(Clone, Copy, PartialEq, Eq)]
 pub struct At<P, E> {
     pub place: P,
     pub fault: E,

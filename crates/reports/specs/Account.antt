@@ -6,7 +6,7 @@ use Rattle.kinds.specs.Meaning.{Meaning}
 use Rattle.tallies.specs.Groups.{span}
 use Rattle.rules.specs.declared.row.Row.{Row}
 use Rattle.rules.specs.Costs.{cost, charge, sheet_bound}
-use Rattle.rules.specs.Steps.{Rules, Position, finished, searched}
+use Rattle.rules.specs.Steps.{Rules, Position, best_cost, finished, searched}
 use Rattle.rules.specs.Soundness.{Assignment, cost_by, Settled}
 use Rattle.runs.specs.declared.call.Call.{Call}
 use Rattle.runs.specs.declared.call.Call.TheVariants.{Close, Search, Show, Charge}
@@ -32,7 +32,7 @@ report_on p nothing number a = report_of p nothing number a.values a.cost a.floo
 abbrev pub account_at : {V C : Type 0} → (ℕ → List ℕ → ℕ → V) → Rules C → ℕ → List Row → Position → Account V C
 account_at values r n rows s = record {
   values = map (values n s.incumbent) (range_with_len 0 n);
-  cost = cost r.joining rows (entry s.incumbent);
+  cost = best_cost r rows s;
   floor = sheet_bound r.joining r.at_most r.codes n rows;
   finished = finished r n s;
   charges = map (charge r.joining rows (entry s.incumbent)) (range_with_len 1 20);

@@ -3,8 +3,8 @@ use Rattle.std.specs.Prelude.{◌≡◌, ℕ, ◌+◌, ◌<◌, List, [], ◌∷
 use Rattle.points.specs.Scenarios.{entry}
 use Rattle.kinds.specs.Meaning.{Meaning}
 use Rattle.rules.specs.declared.row.Row.{Row}
-use Rattle.rules.specs.Costs.{cost, charge, sheet_bound}
-use Rattle.rules.specs.Steps.{Rules, Position, taken, finished}
+use Rattle.rules.specs.Costs.{charge}
+use Rattle.rules.specs.Steps.{Rules, Position, taken}
 use Rattle.statements.specs.declared.entry.Entry.{Entry}
 use Rattle.statements.specs.Faults.{first_fault}
 use Rattle.statements.specs.Drafts.{size_checks, enter_checks, numbered, strike_checks, reweigh_checks, look_checks}

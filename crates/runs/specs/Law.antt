@@ -7,10 +7,10 @@ use Rattle.rules.specs.Orders.{InOrder}
 use Rattle.rules.specs.Steps.{Rules, Position, total, finished}
 use Rattle.rules.specs.Soundness.{Assignment, cost_by, Settled}
 use Rattle.runs.specs.declared.call.Call.{Call}
-use Rattle.runs.specs.declared.call.Call.TheVariants.{Size, Enter, Strike, Reweigh, Look, Close, Search, Show, Charge, Reopen}
+use Rattle.runs.specs.declared.call.Call.TheVariants.{Close, Search, Charge, Reopen}
 use Rattle.runs.specs.declared.answer.Sight.{Sight}
 use Rattle.runs.specs.declared.answer.Answer.{Answer}
-use Rattle.runs.specs.declared.answer.Answer.TheVariants.{Unmade, Refused, Done, Entered, Looked, Took, Shown, Charged}
+use Rattle.runs.specs.declared.answer.Answer.TheVariants.{Done, Took, Shown, Charged}
 use Rattle.runs.specs.Models.{Model, drafting, closed, after}
 
 -- x stands at place i of the list, counted from 0

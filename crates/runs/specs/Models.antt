@@ -9,7 +9,7 @@ use Rattle.statements.specs.Faults.{Check, first_fault}
 use Rattle.statements.specs.Drafts.{size_checks, enter_checks, row_of, numbered, strike_checks, reweigh_checks}
 use Rattle.statements.specs.Searches.{search_checks}
 use Rattle.runs.specs.declared.call.Call.{Call}
-use Rattle.runs.specs.declared.call.Call.TheVariants.{Size, Enter, Strike, Reweigh, Look, Close, Search, Show, Charge, Reopen}
+use Rattle.runs.specs.declared.call.Call.TheVariants.{Size, Enter, Strike, Reweigh, Close, Search, Reopen}
 
 -- A draft of n items with its rows; or a closed sheet, where its search stands, and how many steps it has taken and been asked for since
 -- it was closed.

@@ -1,11 +1,10 @@
 -- What the calls of a closed sheet keep and answer.
 use Rattle.std.specs.Prelude.{◌≡◌, ℕ, ◌+◌, ◌≤◌, true, false, List, slice_index_or}
-use Rattle.points.specs.Scenarios.{entry}
 use Rattle.kinds.specs.Meaning.{Meaning}
 use Rattle.kinds.specs.Pages.{Written}
 use Rattle.rules.specs.declared.row.Row.{Row}
-use Rattle.rules.specs.Costs.{cost, sheet_bound}
-use Rattle.rules.specs.Steps.{Rules, Position, advance, taken, finished}
+use Rattle.rules.specs.Costs.{sheet_bound}
+use Rattle.rules.specs.Steps.{Rules, Position, best_cost, advance, taken, finished}
 use Rattle.rules.specs.Soundness.{Assignment, cost_by, Sound, Settled}
 use Rattle.search.specs.declared.sheet.Sheet.{Sheet}
 use Rattle.search.specs.Closed.{rows_of, position_of}
@@ -38,7 +37,7 @@ pub record Keeps {V C : Type 0} (m : Meaning V) (r : Rules C) (s s' : Sheet) (k 
 -- What a show tells beside the values, of n items and their rows where the search stands at s: the cost of the incumbent, the lower
 -- bound of the sheet, and whether the search has finished.
 pub record CostsShown {C : Type 0} (r : Rules C) (n : ℕ) (rows : List Row) (s : Position) (a : Shown C) : Type 0 where
-  pub cost_is : a.cost ≡ cost r.joining rows (entry s.incumbent)
+  pub cost_is : a.cost ≡ best_cost r rows s
   pub floor_is : a.floor ≡ sheet_bound r.joining r.at_most r.codes n rows
   pub finished_is : a.finished ≡ finished r n s
 
