@@ -5,7 +5,7 @@ use Rattle.points.specs.Scenarios.{entry}
 use Rattle.kinds.specs.Meaning.{Meaning}
 use Rattle.tallies.specs.Groups.{span}
 use Rattle.rules.specs.declared.row.Row.{Row}
-use Rattle.rules.specs.Costs.{cost, charge, sheet_bound}
+use Rattle.rules.specs.Costs.{charge, sheet_bound}
 use Rattle.rules.specs.Steps.{Rules, Position, best_cost, finished, searched}
 use Rattle.rules.specs.Soundness.{Assignment, cost_by, Settled}
 use Rattle.runs.specs.declared.call.Call.{Call}
