@@ -1,3 +1,7 @@
 -- The lemmas of the proofs.
 mod Unions
 mod Entries
+pub mod Agreeing
+pub mod Composites
+pub mod Lacking
+pub mod Spoken

@@ -2,3 +2,4 @@
 pub mod Relations
 pub mod Scores
 pub mod Letters
+pub mod Laws
