@@ -33,3 +33,10 @@ equal_tests true true p q = (λ _. (λ _. q.0 refl, λ _. p.0 refl), λ _. refl)
 equal_tests true false p q = (λ h. absurd (false≢true h), λ both. q.1 (both.0 (p.0 refl)))
 equal_tests false true p q = (λ h. absurd (false≢true h), λ both. p.1 (both.1 (q.0 refl)))
 equal_tests false false p q = (λ _. (λ x. absurd (false≢true (p.1 x)), λ y. absurd (false≢true (q.1 y))), λ _. refl)
+
+-- the equality of a set with a decided one
+pub equals_decided : {P : ℕ → Type 0} → (a b : ℕ) → ((e : ℕ) → Decides (has a e) (P e)) → Decides (eqb a b) ((e : ℕ) → Decides (has b e) (P e))
+equals_decided {P} a b p = (
+  λ h. subst (λ (s : ℕ). (e : ℕ) → Decides (has s e) (P e)) (eqb-true a b h) p,
+  λ q. eq-eqb a b (same_members a b (λ e. same_from_decides (has a e) (has b e) (p e) (q e))),
+)

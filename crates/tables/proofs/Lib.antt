@@ -5,3 +5,5 @@ pub mod Agreeing
 pub mod Composites
 pub mod Lacking
 pub mod Spoken
+pub mod Readings
+pub mod Rowed

@@ -3,3 +3,4 @@ pub mod Relations
 pub mod Scores
 pub mod Letters
 pub mod Laws
+pub mod Published

@@ -1,6 +1,8 @@
 // Published tables, held against ours.
-ghost use Rattle.std.specs.Prelude.{◌≡◌, ℕ, ◌==◌, bit_or, length, IfOk, IsErr, IsOk, MatchOption};
+ghost use Rattle.std.specs.Prelude.{◌≡◌, ℕ, ◌==◌, ◌↔◌, Bool, Decides, bit_or, length, IfOk, IsErr, IsOk, MatchOption};
+ghost use Rattle.kinds.specs.Composition.{Composition};
 ghost use Rattle.tables.specs.Letters.{meant_code};
+ghost use Rattle.tables.specs.Published.{EntriesAgree, TableAgrees};
 ghost use Rattle.tables.specs.Relations.{Single, Whole};
 ghost use Rattle.tables.specs.Scores.{score_after};
 
@@ -89,10 +91,14 @@ impl Comparison {
     fn hold_composition<K: Kind + Notation>(
         &mut self,
         rt: HostRuntime,
-        (r, s): (u8, u8),
+        relations: (u8, u8),
         published: Option<u64>,
-    ) -> anyhow::Result<()> {
-        self.hold::<K>(rt, (r, s), compose::<K>(r, s), published)
+    ) -> anyhow::Result<()>
+        ensures unread { published ≡ None → IsErr result }
+        ensures counted { IfOk result (λ _. (set : ℕ) → published ≡ Some set → (agrees : Bool) × Decides agrees (Composition K.Kind.meaning relations.0 relations.1 set) × (self.new ≡ record self.old { score = score_after self.old.score agrees })) }
+    {
+        let (r, s) = relations;
+        self.hold::<K>(rt, relations, compose::<K>(r, s), published)
     }
 
     /// Counts in the entries in the row of r of a table of compositions.
@@ -103,7 +109,8 @@ impl Comparison {
         r: u8,
         entries: &[&str],
     ) -> anyhow::Result<()>
-        ensures { IsOk result → length entries.now ≡ length table.entry.rows.now }
+        ensures full { IsOk result → length entries.now ≡ length table.entry.rows.now }
+        ensures counted { IfOk result (λ _. (self.new.score.lacking ≡ 0) ↔ ((self.old.score.lacking ≡ 0) × EntriesAgree K.Kind.meaning K.words table.entry r entries.now)) }
     {
         if entries.len() != table.rows.len() {
             return Err(anyhow!("a published row has not one entry for each column"));
@@ -152,7 +159,9 @@ fn hold_compositions<K: Kind + Notation>(
     rt: HostRuntime,
     table: Table,
     left_out: u64,
-) -> anyhow::Result<u32> {
+) -> anyhow::Result<u32>
+    ensures { IfOk result (λ differing. (differing ≡ 0) ↔ TableAgrees K.Kind.meaning K.words table.entry) }
+{
     let mut comparison = Comparison {
         met: left_out,
         ..Comparison::default()

@@ -1,0 +1,63 @@
+-- Entries of rows of published tables, counted in.
+use Rattle.std.proofs.Common.{◌≡◌, ℕ, Option, None, Some, Ok, Result, MatchOption, IsErr, Bor, Bool, List, Decides, get_or, sym, refl, subst}
+use Rattle.std.proofs.lemmas.Bool.{false≢true}
+use Rattle.kinds.specs.Meaning.{Meaning}
+use Rattle.kinds.specs.Composition.{Composition}
+use Rattle.tables.specs.declared.published.Letter.{Letter}
+use Rattle.tables.specs.declared.published.Entries.{Entries}
+use Rattle.tables.specs.declared.comparison.Table.{Table}
+use Rattle.tables.specs.declared.score.Score.{Score}
+use Rattle.tables.specs.Letters.{Entered, Unread, meant_code}
+use Rattle.tables.specs.Published.{EntriesAgree, EntryAgrees, RowAgrees}
+use Rattle.tables.specs.Scores.{score_after}
+use Rattle.tables.proofs.Lacking.{Counts, counts_as, counts_one}
+use Rattle.tables.proofs.Readings.{entered_composition}
+
+module _ {V : Type 0} (m : Meaning V) (words : List (List ℕ)) (letters : List Letter) (r : ℕ) where
+  -- an entry that was read and held is counted in
+  pub entry_counted : (column entry : List ℕ) (s : ℕ) → meant_code words letters column ≡ Some s → (old new : Score) (read : Option ℕ) →
+      MatchOption read (Unread words letters entry) (λ set. Entered words letters entry set) → (read ≡ None → ⊥) →
+      ((set : ℕ) → read ≡ Some set → (agrees : Bool) × Decides agrees (Composition m r s set) × (new ≡ score_after old agrees)) →
+      Counts old.lacking new.lacking (EntryAgrees m words letters r column entry)
+  entry_counted column entry s is old new None entered some counted = absurd (some refl)
+  entry_counted column entry s is old new (Some set) entered some counted =
+      let (agrees, decides, after) = counted set refl in
+      counts_as old.lacking new.lacking (λ composed. (s, is, set, entered, composed)) back (counts_one old new agrees (Composition m r s set) decides after)
+    where
+      back : EntryAgrees m words letters r column entry → Composition m r s set
+      back (s', is', set', entered', composed) =
+          let same : s' ≡ s = cc in
+          entered_composition m r s words letters entry set' set entered' entered (subst (λ (n : ℕ). Composition m r n set') same composed)
+
+  -- an entry by its place in the row
+  pub at_place : (rows : List Entries) (entries : List (Bor (List ℕ))) (k : ℕ) (column : Entries) (entry : Bor (List ℕ)) →
+      ((d : Entries) → column ≡ get_or rows k d) → ((d : Bor (List ℕ)) → entry ≡ get_or entries k d) → (a b : ℕ) →
+      Counts a b (EntryAgrees m words letters r column.letter.now entry.now) →
+      Counts a b ((c : Entries) (e : Bor (List ℕ)) → EntryAgrees m words letters r (get_or rows k c).letter.now (get_or entries k e).now)
+  at_place rows entries k column entry first second a b = counts_as a b to from
+    where
+      to : EntryAgrees m words letters r column.letter.now entry.now → (c : Entries) (e : Bor (List ℕ)) →
+          EntryAgrees m words letters r (get_or rows k c).letter.now (get_or entries k e).now
+      to agrees c e =
+          subst (λ (x : Entries). EntryAgrees m words letters r x.letter.now (get_or entries k e).now) (first c)
+          (subst (λ (x : Bor (List ℕ)). EntryAgrees m words letters r column.letter.now x.now) (second e) agrees)
+
+      from : ((c : Entries) (e : Bor (List ℕ)) → EntryAgrees m words letters r (get_or rows k c).letter.now (get_or entries k e).now) →
+          EntryAgrees m words letters r column.letter.now entry.now
+      from all =
+          subst (λ (x : Entries). EntryAgrees m words letters r x.letter.now entry.now) (sym (first column))
+          (subst (λ (x : Bor (List ℕ)). EntryAgrees m words letters r (get_or rows k column).letter.now x.now) (sym (second entry)) (all column entry))
+
+-- the code of a letter that was read
+pub code_read : {E : Type 0} (o : Option ℕ) (s : ℕ) (read : Result ℕ E) → MatchOption o (IsErr read) (λ code. read ≡ Ok code) → read ≡ Ok s → o ≡ Some s
+code_read {E} None s read h is = absurd (false≢true (subst (λ (x : Result ℕ E). IsErr x) is h))
+code_read (Some code) s read h is = cc
+
+-- the entries of a row whose letter was read
+pub row_counted : {V : Type 0} (m : Meaning V) (words : List (List ℕ)) (table : Table) (row : Entries) (r : ℕ) →
+    meant_code words table.letters.0.now row.letter.now ≡ Some r → (a b : ℕ) →
+    Counts a b (EntriesAgree m words table r row.entries.now) → Counts a b (RowAgrees m words table row)
+row_counted m words table row r is a b = counts_as a b (λ agree. (r, is, agree)) back
+  where
+    back : RowAgrees m words table row → EntriesAgree m words table r row.entries.now
+    back (r', is', agree) = let same : r' ≡ r = cc in subst (λ (n : ℕ). EntriesAgree m words table n row.entries.now) same agree
