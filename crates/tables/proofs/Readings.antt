@@ -1,8 +1,6 @@
 -- What is read stands for one set: two sets for which an entry stands have the same members.
-use Rattle.std.proofs.Common.{◌≡◌, ℕ, ◌<◌, true, Option, None, Some, MatchOption, List, ◌∙◌, sym, subst}
+use Rattle.std.proofs.Common.{◌≡◌, ℕ, ◌<◌, true, Option, None, Some, MatchOption, Decides, List, ◌∙◌, subst}
 use Rattle.points.specs.Sets.{has}
-use Rattle.kinds.specs.Meaning.{Meaning}
-use Rattle.kinds.specs.Composition.{Composition}
 use Rattle.tables.specs.declared.published.Letter.{Letter}
 use Rattle.tables.specs.Relations.{UnionOf}
 use Rattle.tables.specs.Letters.{Entered, Named, PartNamed, WordNamed, meant, parts}
@@ -42,10 +40,10 @@ within_entered : (words : List (List ℕ)) (letters : List Letter) (entry : List
 within_entered words letters entry set set' =
     within_option (meant letters entry) (within_union (PartNamed words letters) (within_part words letters) (parts entry) set set') (λ text. within_named words text set set')
 
--- each set for which an entry stands is the composition that one of them is
-pub entered_composition : {V : Type 0} (m : Meaning V) (r s : ℕ) (words : List (List ℕ)) (letters : List Letter) (entry : List ℕ) (set set' : ℕ) →
-    Entered words letters entry set → Entered words letters entry set' → Composition m r s set → Composition m r s set'
-entered_composition m r s words letters entry set set' is is' composed e = (
-  λ p. (composed e).0 (within_entered words letters entry set' set is' is e p),
-  λ f. within_entered words letters entry set set' is is' e ((composed e).1 f),
+-- what decides the members of a set for which an entry stands decides those of each such set
+pub entered_decided : {P : ℕ → Type 0} → (words : List (List ℕ)) (letters : List Letter) (entry : List ℕ) (set set' : ℕ) → Entered words letters entry set →
+    Entered words letters entry set' → ((e : ℕ) → Decides (has set e) (P e)) → (e : ℕ) → Decides (has set' e) (P e)
+entered_decided words letters entry set set' is is' decided e = (
+  λ p. (decided e).0 (within_entered words letters entry set' set is' is e p),
+  λ f. within_entered words letters entry set set' is is' e ((decided e).1 f),
 )

@@ -1,17 +1,20 @@
--- Entries of rows of published tables, counted in.
-use Rattle.std.proofs.Common.{◌≡◌, ℕ, Option, None, Some, Ok, Result, MatchOption, IsErr, Bor, Bool, List, Decides, get_or, sym, refl, subst}
+-- Entries of published tables, counted in.
+use Rattle.std.proofs.Common.{◌≡◌, ℕ, ◌<◌, eqb, Option, None, Some, Ok, Result, MatchOption, IsErr, Bor, Bool, List, Decides, get_or, sym, refl, subst}
 use Rattle.std.proofs.lemmas.Bool.{false≢true}
-use Rattle.kinds.specs.Meaning.{Meaning}
+use Rattle.kinds.specs.Meaning.{Meaning, Fits}
 use Rattle.kinds.specs.Composition.{Composition}
 use Rattle.tables.specs.declared.published.Letter.{Letter}
 use Rattle.tables.specs.declared.published.Entries.{Entries}
+use Rattle.tables.specs.declared.published.Turned.{Turned}
 use Rattle.tables.specs.declared.comparison.Table.{Table}
 use Rattle.tables.specs.declared.score.Score.{Score}
 use Rattle.tables.specs.Letters.{Entered, Unread, meant_code}
-use Rattle.tables.specs.Published.{EntriesAgree, EntryAgrees, RowAgrees}
+use Rattle.tables.specs.Published.{ConverseAgrees, EntriesAgree, EntryAgrees, RowAgrees}
+use Rattle.tables.specs.Relations.{Single}
 use Rattle.tables.specs.Scores.{score_after}
+use Rattle.tables.proofs.Agreeing.{equals_decided}
 use Rattle.tables.proofs.Lacking.{Counts, counts_as, counts_one}
-use Rattle.tables.proofs.Readings.{entered_composition}
+use Rattle.tables.proofs.Readings.{entered_decided}
 
 module _ {V : Type 0} (m : Meaning V) (words : List (List ℕ)) (letters : List Letter) (r : ℕ) where
   -- an entry that was read and held is counted in
@@ -27,7 +30,7 @@ module _ {V : Type 0} (m : Meaning V) (words : List (List ℕ)) (letters : List 
       back : EntryAgrees m words letters r column entry → Composition m r s set
       back (s', is', set', entered', composed) =
           let same : s' ≡ s = cc in
-          entered_composition m r s words letters entry set' set entered' entered (subst (λ (n : ℕ). Composition m r n set') same composed)
+          entered_decided {P = Fits m r s} words letters entry set' set entered' entered (subst (λ (n : ℕ). Composition m r n set') same composed)
 
   -- an entry by its place in the row
   pub at_place : (rows : List Entries) (entries : List (Bor (List ℕ))) (k : ℕ) (column : Entries) (entry : Bor (List ℕ)) →
@@ -61,3 +64,21 @@ row_counted m words table row r is a b = counts_as a b (λ agree. (r, is, agree)
   where
     back : RowAgrees m words table row → EntriesAgree m words table r row.entries.now
     back (r', is', agree) = let same : r' ≡ r = cc in subst (λ (n : ℕ). EntriesAgree m words table n row.entries.now) same agree
+
+-- a converse that was read and held is counted in
+pub converse_counted : {V : Type 0} (m : Meaning V) (words : List (List ℕ)) (letters : List Letter) (turned : Turned) (r c ours : ℕ) →
+    meant_code words letters turned.0.now ≡ Some r → c ≡ m.converse r → Single c ours → (old new : Score) (read : Option ℕ) →
+    MatchOption read (Unread words letters turned.1.now) (λ set. Entered words letters turned.1.now set) → (read ≡ None → ⊥) →
+    ((set : ℕ) → read ≡ Some set → new ≡ score_after old (eqb ours set)) → Counts old.lacking new.lacking (ConverseAgrees m words letters turned)
+converse_counted m words letters turned r c ours is turns single old new None entered some counted = absurd (some refl)
+converse_counted m words letters turned r c ours is turns single old new (Some set) entered some counted =
+    counts_as old.lacking new.lacking (λ one. (r, is, set, entered, one)) back
+    (counts_one old new (eqb ours set) (Single (m.converse r) set) (equals_decided {P = λ e. (e ≡ m.converse r) × (m.converse r < 64)} ours set own) (counted set refl))
+  where
+    own : Single (m.converse r) ours
+    own = subst (λ (n : ℕ). Single n ours) turns single
+
+    back : ConverseAgrees m words letters turned → Single (m.converse r) set
+    back (r', is', set', entered', one) =
+        let same : r' ≡ r = cc in
+        entered_decided {P = λ e. (e ≡ m.converse r) × (m.converse r < 64)} words letters turned.1.now set' set entered' entered (subst (λ (n : ℕ). Single (m.converse n) set') same one)

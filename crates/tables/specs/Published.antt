@@ -1,4 +1,4 @@
--- Published tables of compositions, and whether they agree with a kind.
+-- Published tables of compositions and converses, and whether they agree with a kind.
 use Rattle.std.specs.Prelude.{◌≡◌, ℕ, ◌<◌, List, Some, length, slice_index_or}
 use Rattle.std.specs.Borrow.{Bor}
 use Rattle.std.specs.List.{All}
@@ -6,7 +6,9 @@ use Rattle.kinds.specs.Meaning.{Meaning}
 use Rattle.kinds.specs.Composition.{Composition}
 use Rattle.tables.specs.Letters.{Entered, meant_code}
 use Rattle.tables.specs.declared.published.Letter.{Letter}
+use Rattle.tables.specs.Relations.{Single}
 use Rattle.tables.specs.declared.published.Entries.{Entries}
+use Rattle.tables.specs.declared.published.Turned.{Turned}
 use Rattle.tables.specs.declared.comparison.Table.{Table}
 
 -- The entry stands for the composition of r and the base relation that the letter of its column stands for.
@@ -28,3 +30,8 @@ RowAgrees m words table row =
 -- Each row agrees.
 abbrev pub TableAgrees : {V : Type 0} → Meaning V → List (List ℕ) → Table → Type 0
 TableAgrees m words table = All (RowAgrees m words table) table.rows.now
+
+-- The letter of the converse stands for the converse of the base relation that the letter stands for.
+abbrev pub ConverseAgrees : {V : Type 0} → Meaning V → List (List ℕ) → List Letter → Turned → Type 0
+ConverseAgrees m words letters turned =
+    (r : ℕ) × (meant_code words letters turned.0.now ≡ Some r) × (set : ℕ) × Entered words letters turned.1.now set × Single (m.converse r) set

@@ -1,8 +1,9 @@
 // Published tables, held against ours.
 ghost use Rattle.std.specs.Prelude.{◌≡◌, ℕ, ◌==◌, ◌↔◌, Bool, Decides, bit_or, length, IfOk, IsErr, IsOk, MatchOption};
+ghost use Rattle.std.specs.List.{All};
 ghost use Rattle.kinds.specs.Composition.{Composition};
 ghost use Rattle.tables.specs.Letters.{meant_code};
-ghost use Rattle.tables.specs.Published.{EntriesAgree, TableAgrees};
+ghost use Rattle.tables.specs.Published.{ConverseAgrees, EntriesAgree, TableAgrees};
 ghost use Rattle.tables.specs.Relations.{Single, Whole};
 ghost use Rattle.tables.specs.Scores.{score_after};
 
@@ -144,7 +145,9 @@ fn hold_converses<K: Kind + Notation>(
     rt: HostRuntime,
     letters: Letters,
     pairs: &[Turned],
-) -> anyhow::Result<u32> {
+) -> anyhow::Result<u32>
+    ensures { IfOk result (λ differing. (differing ≡ 0) ↔ All (ConverseAgrees K.Kind.meaning K.words letters.entry.0.now) pairs.now) }
+{
     let mut comparison = Comparison::default();
     for Turned(relation, converse) in pairs {
         let r = comparison.meet::<K>(letters, relation)?;
