@@ -1,6 +1,7 @@
 -- Entries of published tables, counted in.
 use Rattle.std.proofs.Common.{◌≡◌, ℕ, ◌<◌, eqb, Option, None, Some, Ok, Result, MatchOption, IsErr, Bor, Bool, List, Decides, get_or, sym, refl, subst}
 use Rattle.std.proofs.lemmas.Bool.{false≢true}
+use Rattle.points.specs.Sets.{has}
 use Rattle.kinds.specs.Meaning.{Meaning, Fits}
 use Rattle.kinds.specs.Composition.{Composition}
 use Rattle.tables.specs.declared.published.Letter.{Letter}
@@ -9,7 +10,7 @@ use Rattle.tables.specs.declared.published.Turned.{Turned}
 use Rattle.tables.specs.declared.comparison.Table.{Table}
 use Rattle.tables.specs.declared.score.Score.{Score}
 use Rattle.tables.specs.Letters.{Entered, Unread, meant_code}
-use Rattle.tables.specs.Published.{ConverseAgrees, EntriesAgree, EntryAgrees, RowAgrees}
+use Rattle.tables.specs.Published.{ConverseAgrees, EntriesAgree, EntryAgrees, NeutralAgrees, RowAgrees}
 use Rattle.tables.specs.Relations.{Single}
 use Rattle.tables.specs.Scores.{score_after}
 use Rattle.tables.proofs.Agreeing.{equals_decided}
@@ -82,3 +83,32 @@ converse_counted m words letters turned r c ours is turns single old new (Some s
     back (r', is', set', entered', one) =
         let same : r' ≡ r = cc in
         entered_decided {P = λ e. (e ≡ m.converse r) × (m.converse r < 64)} words letters turned.1.now set' set entered' entered (subst (λ (n : ℕ). Single (m.converse n) set') same one)
+
+-- what an entry that was read and held says of its set is counted in
+pub set_counted : {P : ℕ → Type 0} → (words : List (List ℕ)) (letters : List Letter) (entry : List ℕ) (old new : Score) (read : Option ℕ) →
+    MatchOption read (Unread words letters entry) (λ set. Entered words letters entry set) → (read ≡ None → ⊥) →
+    ((set : ℕ) → read ≡ Some set → (agrees : Bool) × Decides agrees ((e : ℕ) → Decides (has set e) (P e)) × (new ≡ score_after old agrees)) →
+    Counts old.lacking new.lacking ((set : ℕ) × Entered words letters entry set × ((e : ℕ) → Decides (has set e) (P e)))
+set_counted words letters entry old new None entered some counted = absurd (some refl)
+set_counted {P} words letters entry old new (Some set) entered some counted =
+    let (agrees, decides, after) = counted set refl in
+    counts_as old.lacking new.lacking (λ decided. (set, entered, decided))
+    (λ other. let (set', entered', decided) = other in entered_decided {P = P} words letters entry set' set entered' entered decided)
+    (counts_one old new agrees ((e : ℕ) → Decides (has set e) (P e)) decides after)
+
+-- the two compositions with i of a base relation that was read
+pub neutral_counted : {V : Type 0} (m : Meaning V) (words : List (List ℕ)) (letters : List Letter) (i r : ℕ) (letter : List ℕ) → meant_code words letters letter ≡ Some r →
+    (a b c : ℕ) → Counts a b ((set : ℕ) × Entered words letters letter set × Composition m i r set) →
+    Counts b c ((set : ℕ) × Entered words letters letter set × Composition m r i set) → Counts a c (NeutralAgrees m words letters i letter)
+neutral_counted m words letters i r letter is a b c before after = (forth, back)
+  where
+    forth : c ≡ 0 → (a ≡ 0) × NeutralAgrees m words letters i letter
+    forth zero =
+        let (none, (set', entered', right)) = after.0 zero in
+        let (first, (set, entered, left)) = before.0 none in
+        (first, (r, is, set, entered, left, entered_decided {P = Fits m r i} words letters letter set' set entered' entered right))
+
+    back : (a ≡ 0) × NeutralAgrees m words letters i letter → c ≡ 0
+    back (zero, (r', is', set, entered, left, right)) =
+        let same : r' ≡ r = cc in
+        after.1 (before.1 (zero, (set, entered, subst (λ (n : ℕ). Composition m i n set) same left)), (set, entered, subst (λ (n : ℕ). Composition m n i set) same right))

@@ -35,3 +35,12 @@ TableAgrees m words table = All (RowAgrees m words table) table.rows.now
 abbrev pub ConverseAgrees : {V : Type 0} → Meaning V → List (List ℕ) → List Letter → Turned → Type 0
 ConverseAgrees m words letters turned =
     (r : ℕ) × (meant_code words letters turned.0.now ≡ Some r) × (set : ℕ) × Entered words letters turned.1.now set × Single (m.converse r) set
+
+-- The letter stands for the set that the base relation i gives composed with itself.
+abbrev pub IdempotentAgrees : {V : Type 0} → Meaning V → List (List ℕ) → List Letter → ℕ → List ℕ → Type 0
+IdempotentAgrees m words letters i letter = (set : ℕ) × Entered words letters letter set × Composition m i i set
+
+-- The letter stands for a base relation, and for the set that it gives composed with the base relation i on either side.
+abbrev pub NeutralAgrees : {V : Type 0} → Meaning V → List (List ℕ) → List Letter → ℕ → List ℕ → Type 0
+NeutralAgrees m words letters i letter =
+    (r : ℕ) × (meant_code words letters letter ≡ Some r) × (set : ℕ) × Entered words letters letter set × Composition m i r set × Composition m r i set

@@ -3,7 +3,7 @@ ghost use Rattle.std.specs.Prelude.{◌≡◌, ℕ, ◌==◌, ◌↔◌, Bool, D
 ghost use Rattle.std.specs.List.{All};
 ghost use Rattle.kinds.specs.Composition.{Composition};
 ghost use Rattle.tables.specs.Letters.{meant_code};
-ghost use Rattle.tables.specs.Published.{ConverseAgrees, EntriesAgree, TableAgrees};
+ghost use Rattle.tables.specs.Published.{ConverseAgrees, EntriesAgree, IdempotentAgrees, NeutralAgrees, TableAgrees};
 ghost use Rattle.tables.specs.Relations.{Single, Whole};
 ghost use Rattle.tables.specs.Scores.{score_after};
 
@@ -177,20 +177,27 @@ fn hold_compositions<K: Kind + Notation>(
 }
 
 /// Holds the row and the column of the identity, which Allen's table leaves out, against ours: composed with it, a relation is itself.
-fn hold_identity(rt: HostRuntime, table: Table, identity: u8) -> anyhow::Result<u32> {
+fn hold_identity<K: Kind + Notation>(
+    rt: HostRuntime,
+    table: Table,
+    identity: u8,
+    letter: &str,
+) -> anyhow::Result<u32>
+    ensures { IfOk result (λ differing. (differing ≡ 0) ↔ (IdempotentAgrees K.Kind.meaning K.words table.entry.letters.0.now identity letter.now × All (λ row. NeutralAgrees K.Kind.meaning K.words table.entry.letters.0.now identity row.letter.now) table.entry.rows.now)) }
+{
     let mut comparison = Comparison {
         met: single(identity),
         ..Comparison::default()
     };
-    let itself = table.letters.set::<Spells>(ALLEN_IDENTITY);
-    comparison.hold_composition::<Spells>(rt, (identity, identity), itself)?;
+    let itself = table.letters.set::<K>(letter);
+    comparison.hold_composition::<K>(rt, (identity, identity), itself)?;
     for row in table.rows {
-        let r = comparison.meet::<Spells>(table.letters, row.letter)?;
-        let itself = table.letters.set::<Spells>(row.letter);
-        comparison.hold_composition::<Spells>(rt, (identity, r), itself)?;
-        comparison.hold_composition::<Spells>(rt, (r, identity), itself)?;
+        let r = comparison.meet::<K>(table.letters, row.letter)?;
+        let itself = table.letters.set::<K>(row.letter);
+        comparison.hold_composition::<K>(rt, (identity, r), itself)?;
+        comparison.hold_composition::<K>(rt, (r, identity), itself)?;
     }
-    comparison.close::<Spells>(rt, "identity")
+    comparison.close::<K>(rt, "identity")
 }
 
 /// The published composition of two directions: those whose two parts are each in the composition of the parts.
@@ -244,7 +251,7 @@ pub(crate) fn hold_all(rt: HostRuntime) -> anyhow::Result<u32> {
         hold_compositions::<Moments>(rt, points, 0)?,
         hold_converses::<Spells>(rt, Letters(&INTERVAL_LETTERS), &INTERVAL_CONVERSES)?,
         hold_compositions::<Spells>(rt, intervals, single(identity))?,
-        hold_identity(rt, intervals, identity)?,
+        hold_identity::<Spells>(rt, intervals, identity, ALLEN_IDENTITY)?,
         hold_converses::<Dwellings>(rt, directions, &DIRECTION_CONVERSES)?,
         hold_directions(rt, directions, points)?,
     ]))
