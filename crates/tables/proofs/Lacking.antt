@@ -1,6 +1,6 @@
 -- Scores that lack nothing: what is known of a count that grows where something does not hold.
 use Rattle.std.proofs.Common.{◌≡◌, ℕ, ◌+◌, ◌<◌, Bool, true, false, Decides, ◌↔◌, sym, refl, subst, inl, inr, arith}
-use Rattle.std.proofs.lemmas.Bool.{cases_lt, cases_order}
+use Rattle.std.proofs.lemmas.Bool.{cases_order}
 use Rattle.tables.specs.Scores.{score_after}
 use Rattle.tables.specs.declared.score.Score.{Score}
 

@@ -1,5 +1,5 @@
 -- Each row counts in its entries.
-use Rattle.std.proofs.Common.{◌≡◌, ℕ, ◌<◌, [], Ok, get_or, length, ap, subst, refl, arith}
+use Rattle.std.proofs.Common.{◌≡◌, ◌<◌, [], Ok, get_or, length, ap, subst, refl, arith}
 use Rattle.std.proofs.lemmas.List.{get_or_default}
 use Rattle.std.proofs.lemmas.Result.{IfOk-weaker}
 use Rattle.tables.specs.Published.{EntriesAgree, RowAgrees}

@@ -1,5 +1,5 @@
 -- Each pair counts in its converse.
-use Rattle.std.proofs.Common.{◌≡◌, ℕ, ◌<◌, ◌==◌, [], Ok, get_or, length, ap, subst, refl, arith}
+use Rattle.std.proofs.Common.{◌≡◌, ◌<◌, ◌==◌, [], Ok, get_or, length, ap, subst, refl, arith}
 use Rattle.std.proofs.lemmas.Bool.{false≢true}
 use Rattle.std.proofs.lemmas.List.{get_or_default}
 use Rattle.std.proofs.lemmas.Result.{IfOk-weaker}
@@ -8,7 +8,7 @@ use Rattle.tables.specs.Scores.{score_after}
 use Rattle.tables.specs.declared.published.Turned.{Turned}
 use Rattle.tables.specs.declared.score.Score.{Score}
 use Rattle.tables.specs.declared.comparison.Comparison.{Comparison}
-use Rattle.tables.proofs.Lacking.{Counts, counts_as, counts_more}
+use Rattle.tables.proofs.Lacking.{counts_as, counts_more}
 use Rattle.tables.proofs.Rowed.{code_read, converse_counted}
 use Rattle.tables.proofs.comparison.hold_converses.Goals as goal
 

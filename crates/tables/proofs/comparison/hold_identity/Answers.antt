@@ -1,5 +1,5 @@
 -- Each row counts in two compositions with the identity, after that of the identity with itself.
-use Rattle.std.proofs.Common.{◌≡◌, ℕ, ◌<◌, [], Ok, get_or, length, ap, subst, refl, arith}
+use Rattle.std.proofs.Common.{◌≡◌, ◌<◌, [], Ok, get_or, length, ap, subst, refl, arith}
 use Rattle.std.proofs.lemmas.Bool.{false≢true}
 use Rattle.std.proofs.lemmas.List.{get_or_default}
 use Rattle.std.proofs.lemmas.Result.{IfOk-weaker}

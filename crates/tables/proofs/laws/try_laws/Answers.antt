@@ -1,5 +1,5 @@
 -- No instance fails exactly if none fails under each name, and each law stands under one.
-use Rattle.std.proofs.Common.{◌≡◌, ℕ, ◌+◌, min, List, [], ◌∷◌, arith}
+use Rattle.std.proofs.Common.{List, [], ◌∷◌, arith}
 use Rattle.std.specs.List.{All}
 use Rattle.tables.specs.Laws.{HoldsOfAll}
 use Rattle.tables.specs.declared.laws.AlgebraLaw.{AlgebraLaw}

@@ -1,5 +1,5 @@
 -- Each column counts in its entry.
-use Rattle.std.proofs.Common.{◌≡◌, ℕ, ◌+◌, ◌<◌, Bor, List, Ok, get_or, length, sym, ap, subst, refl, rules}
+use Rattle.std.proofs.Common.{◌≡◌, ℕ, ◌<◌, Bor, List, Ok, get_or, length, sym, ap, subst, refl, rules}
 use Rattle.std.proofs.lemmas.Bool.{false≢true}
 use Rattle.std.proofs.lemmas.List.{length_push}
 use Rattle.std.proofs.lemmas.Slice.Zip.{zip_turn}
