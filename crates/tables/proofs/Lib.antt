@@ -1,3 +1,9 @@
 -- The lemmas of the proofs.
 mod Unions
 mod Entries
+pub mod Agreeing
+pub mod Composites
+pub mod Lacking
+pub mod Spoken
+pub mod Readings
+pub mod Rowed

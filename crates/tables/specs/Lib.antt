@@ -2,3 +2,5 @@
 pub mod Relations
 pub mod Scores
 pub mod Letters
+pub mod Laws
+pub mod Published

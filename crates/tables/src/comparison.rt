@@ -1,6 +1,9 @@
 // Published tables, held against ours.
-ghost use Rattle.std.specs.Prelude.{◌≡◌, ℕ, ◌==◌, bit_or, length, IfOk, IsErr, IsOk, MatchOption};
+ghost use Rattle.std.specs.Prelude.{◌≡◌, ℕ, ◌==◌, ◌↔◌, Bool, Decides, bit_or, length, IfOk, IsErr, IsOk, MatchOption};
+ghost use Rattle.std.specs.List.{All};
+ghost use Rattle.kinds.specs.Composition.{Composition};
 ghost use Rattle.tables.specs.Letters.{meant_code};
+ghost use Rattle.tables.specs.Published.{ConverseAgrees, EntriesAgree, IdempotentAgrees, NeutralAgrees, TableAgrees};
 ghost use Rattle.tables.specs.Relations.{Single, Whole};
 ghost use Rattle.tables.specs.Scores.{score_after};
 
@@ -89,10 +92,14 @@ impl Comparison {
     fn hold_composition<K: Kind + Notation>(
         &mut self,
         rt: HostRuntime,
-        (r, s): (u8, u8),
+        relations: (u8, u8),
         published: Option<u64>,
-    ) -> anyhow::Result<()> {
-        self.hold::<K>(rt, (r, s), compose::<K>(r, s), published)
+    ) -> anyhow::Result<()>
+        ensures unread { published ≡ None → IsErr result }
+        ensures counted { IfOk result (λ _. (set : ℕ) → published ≡ Some set → (agrees : Bool) × Decides agrees (Composition K.Kind.meaning relations.0 relations.1 set) × (self.new ≡ record self.old { score = score_after self.old.score agrees })) }
+    {
+        let (r, s) = relations;
+        self.hold::<K>(rt, relations, compose::<K>(r, s), published)
     }
 
     /// Counts in the entries in the row of r of a table of compositions.
@@ -103,7 +110,8 @@ impl Comparison {
         r: u8,
         entries: &[&str],
     ) -> anyhow::Result<()>
-        ensures { IsOk result → length entries.now ≡ length table.entry.rows.now }
+        ensures full { IsOk result → length entries.now ≡ length table.entry.rows.now }
+        ensures counted { IfOk result (λ _. (self.new.score.lacking ≡ 0) ↔ ((self.old.score.lacking ≡ 0) × EntriesAgree K.Kind.meaning K.words table.entry r entries.now)) }
     {
         if entries.len() != table.rows.len() {
             return Err(anyhow!("a published row has not one entry for each column"));
@@ -137,7 +145,9 @@ fn hold_converses<K: Kind + Notation>(
     rt: HostRuntime,
     letters: Letters,
     pairs: &[Turned],
-) -> anyhow::Result<u32> {
+) -> anyhow::Result<u32>
+    ensures { IfOk result (λ differing. (differing ≡ 0) ↔ All (ConverseAgrees K.Kind.meaning K.words letters.entry.0.now) pairs.now) }
+{
     let mut comparison = Comparison::default();
     for Turned(relation, converse) in pairs {
         let r = comparison.meet::<K>(letters, relation)?;
@@ -152,7 +162,9 @@ fn hold_compositions<K: Kind + Notation>(
     rt: HostRuntime,
     table: Table,
     left_out: u64,
-) -> anyhow::Result<u32> {
+) -> anyhow::Result<u32>
+    ensures { IfOk result (λ differing. (differing ≡ 0) ↔ TableAgrees K.Kind.meaning K.words table.entry) }
+{
     let mut comparison = Comparison {
         met: left_out,
         ..Comparison::default()
@@ -165,20 +177,27 @@ fn hold_compositions<K: Kind + Notation>(
 }
 
 /// Holds the row and the column of the identity, which Allen's table leaves out, against ours: composed with it, a relation is itself.
-fn hold_identity(rt: HostRuntime, table: Table, identity: u8) -> anyhow::Result<u32> {
+fn hold_identity<K: Kind + Notation>(
+    rt: HostRuntime,
+    table: Table,
+    identity: u8,
+    letter: &str,
+) -> anyhow::Result<u32>
+    ensures { IfOk result (λ differing. (differing ≡ 0) ↔ (IdempotentAgrees K.Kind.meaning K.words table.entry.letters.0.now identity letter.now × All (λ row. NeutralAgrees K.Kind.meaning K.words table.entry.letters.0.now identity row.letter.now) table.entry.rows.now)) }
+{
     let mut comparison = Comparison {
         met: single(identity),
         ..Comparison::default()
     };
-    let itself = table.letters.set::<Spells>(ALLEN_IDENTITY);
-    comparison.hold_composition::<Spells>(rt, (identity, identity), itself)?;
+    let itself = table.letters.set::<K>(letter);
+    comparison.hold_composition::<K>(rt, (identity, identity), itself)?;
     for row in table.rows {
-        let r = comparison.meet::<Spells>(table.letters, row.letter)?;
-        let itself = table.letters.set::<Spells>(row.letter);
-        comparison.hold_composition::<Spells>(rt, (identity, r), itself)?;
-        comparison.hold_composition::<Spells>(rt, (r, identity), itself)?;
+        let r = comparison.meet::<K>(table.letters, row.letter)?;
+        let itself = table.letters.set::<K>(row.letter);
+        comparison.hold_composition::<K>(rt, (identity, r), itself)?;
+        comparison.hold_composition::<K>(rt, (r, identity), itself)?;
     }
-    comparison.close::<Spells>(rt, "identity")
+    comparison.close::<K>(rt, "identity")
 }
 
 /// The published composition of two directions: those whose two parts are each in the composition of the parts.
@@ -232,7 +251,7 @@ pub(crate) fn hold_all(rt: HostRuntime) -> anyhow::Result<u32> {
         hold_compositions::<Moments>(rt, points, 0)?,
         hold_converses::<Spells>(rt, Letters(&INTERVAL_LETTERS), &INTERVAL_CONVERSES)?,
         hold_compositions::<Spells>(rt, intervals, single(identity))?,
-        hold_identity(rt, intervals, identity)?,
+        hold_identity::<Spells>(rt, intervals, identity, ALLEN_IDENTITY)?,
         hold_converses::<Dwellings>(rt, directions, &DIRECTION_CONVERSES)?,
         hold_directions(rt, directions, points)?,
     ]))

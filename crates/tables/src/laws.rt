@@ -1,6 +1,12 @@
 // The laws of a relation algebra, tried over the base relations of a kind, which are told by their codes.
+ghost use Rattle.std.specs.Prelude.{◌≡◌, ◌↔◌, Bool, Decides, IfOk, if◌then◌else◌, nat_lt};
+ghost use Rattle.std.specs.List.{All};
+ghost use Rattle.tables.specs.declared.laws.AlgebraLaw.{AlgebraLaw};
+ghost use Rattle.tables.specs.Laws.{HoldsOfAll, LawHolds, speaks_of};
+ghost use Rattle.tables.specs.Scores.{score_after};
+
 use crate::algebra::{compositions, converses, single};
-use crate::score::Score;
+use crate::score::{Score, total};
 use kinds::composition::compose;
 use kinds::kind::Kind;
 use kinds::notation::Notation;
@@ -18,25 +24,11 @@ enum AlgebraLaw {
 }
 
 impl AlgebraLaw {
-    // The names stand here and in no `Display`, since the two laws of the identity are counted under one.
-
-    /// The laws by the names under which they are counted.
-    const NAMED: [(&'static str, &'static [AlgebraLaw]); 5] = [
-        (
-            "identity",
-            &[AlgebraLaw::LeftIdentity, AlgebraLaw::RightIdentity],
-        ),
-        ("converse of a converse", &[AlgebraLaw::ConverseOfConverse]),
-        (
-            "converse of a composition",
-            &[AlgebraLaw::ConverseOfComposition],
-        ),
-        ("associativity", &[AlgebraLaw::Associativity]),
-        ("cycle", &[AlgebraLaw::Cycle]),
-    ];
-
     /// How many second and third relations there are to an instance, of b relations.
-    fn extent(self, b: u8) -> (u8, u8) {
+    fn extent(self, b: u8) -> (u8, u8)
+        ensures second { result.0 ≡ (if nat_lt 1 (speaks_of self) then b else 1) }
+        ensures third { result.1 ≡ (if nat_lt 2 (speaks_of self) then b else 1) }
+    {
         match self {
             AlgebraLaw::LeftIdentity | AlgebraLaw::RightIdentity | AlgebraLaw::ConverseOfConverse =>
                 (1, 1),
@@ -46,7 +38,9 @@ impl AlgebraLaw {
     }
 
     /// Whether the law holds of the relations r, s and t.
-    fn holds<K: Kind>(self, r: u8, s: u8, t: u8) -> bool {
+    fn holds<K: Kind>(self, r: u8, s: u8, t: u8) -> bool
+        ensures { Decides result (LawHolds K.Kind.meaning self r s t) }
+    {
         match self {
             AlgebraLaw::LeftIdentity => compose::<K>(0, r) == single(r),
             AlgebraLaw::RightIdentity => compose::<K>(r, 0) == single(r),
@@ -72,8 +66,11 @@ fn try_instance<K: Kind + Notation>(
     score: &mut Score,
     name: &str,
     law: AlgebraLaw,
-    (r, s, t): (u8, u8, u8),
-) -> io::Result<()> {
+    relations: (u8, u8, u8),
+) -> io::Result<()>
+    ensures { IfOk result (λ _. (holds : Bool) × Decides holds (LawHolds K.Kind.meaning law relations.0 relations.1 relations.2) × (score.new ≡ score_after score.old holds)) }
+{
+    let (r, s, t) = relations;
     let holds = law.holds::<K>(r, s, t);
     if !holds {
         println!(rt;
@@ -87,22 +84,37 @@ fn try_instance<K: Kind + Notation>(
     Ok(())
 }
 
+/// Tries a law over all base relations of a kind, and counts in its instances.
+fn try_law<K: Kind + Notation>(
+    rt: HostRuntime,
+    score: &mut Score,
+    name: &str,
+    law: AlgebraLaw,
+) -> io::Result<()>
+    ensures { IfOk result (λ _. (score.new.lacking ≡ 0) ↔ ((score.old.lacking ≡ 0) × HoldsOfAll K.Kind.meaning law)) }
+{
+    let (second, third) = law.extent(K::count());
+    for r in 0..K::count() {
+        for s in 0..second {
+            for t in 0..third {
+                try_instance::<K>(rt, score, name, law, (r, s, t))?;
+            }
+        }
+    }
+    Ok(())
+}
+
 /// Tries the laws of a name over all base relations of a kind; how many instances fail.
 fn try_named<K: Kind + Notation>(
     rt: HostRuntime,
     name: &str,
     laws: &[AlgebraLaw],
-) -> io::Result<u32> {
+) -> io::Result<u32>
+    ensures { IfOk result (λ failing. (failing ≡ 0) ↔ All (HoldsOfAll K.Kind.meaning) laws.now) }
+{
     let mut score = Score::default();
     for law in laws {
-        let (second, third) = law.extent(K::count());
-        for r in 0..K::count() {
-            for s in 0..second {
-                for t in 0..third {
-                    try_instance::<K>(rt, &mut score, name, *law, (r, s, t))?;
-                }
-            }
-        }
+        try_law::<K>(rt, &mut score, name, *law)?;
     }
     println!(rt;
         "law {} {name}: {} of {} hold",
@@ -114,12 +126,29 @@ fn try_named<K: Kind + Notation>(
 }
 
 /// Tries all laws over the base relations of a kind; how many instances fail.
-pub(crate) fn try_laws<K: Kind + Notation>(rt: HostRuntime) -> io::Result<u32> {
-    let mut failing: u32 = 0;
-    for (name, laws) in AlgebraLaw::NAMED {
-        failing = failing.saturating_add(try_named::<K>(rt, name, laws)?);
-    }
-    Ok(failing)
+pub(crate) fn try_laws<K: Kind + Notation>(rt: HostRuntime) -> io::Result<u32>
+    ensures { IfOk result (λ failing. (failing ≡ 0) ↔ ((law : AlgebraLaw) → HoldsOfAll K.Kind.meaning law)) }
+{
+    // The names stand here and in no `Display`, since the two laws of the identity are counted under one.
+    Ok(total(&[
+        try_named::<K>(
+            rt,
+            "identity",
+            &[AlgebraLaw::LeftIdentity, AlgebraLaw::RightIdentity],
+        )?,
+        try_named::<K>(
+            rt,
+            "converse of a converse",
+            &[AlgebraLaw::ConverseOfConverse],
+        )?,
+        try_named::<K>(
+            rt,
+            "converse of a composition",
+            &[AlgebraLaw::ConverseOfComposition],
+        )?,
+        try_named::<K>(rt, "associativity", &[AlgebraLaw::Associativity])?,
+        try_named::<K>(rt, "cycle", &[AlgebraLaw::Cycle])?,
+    ]))
 }
 
 #[cfg(test)]

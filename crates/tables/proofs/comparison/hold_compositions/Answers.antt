@@ -1,0 +1,42 @@
+-- Each row counts in its entries.
+use Rattle.std.proofs.Common.{◌≡◌, ◌<◌, [], Ok, get_or, length, ap, subst, refl, arith}
+use Rattle.std.proofs.lemmas.List.{get_or_default}
+use Rattle.std.proofs.lemmas.Result.{IfOk-weaker}
+use Rattle.tables.specs.Published.{EntriesAgree, RowAgrees}
+use Rattle.tables.specs.declared.published.Entries.{Entries}
+use Rattle.tables.specs.declared.score.Score.{Score}
+use Rattle.tables.specs.declared.comparison.Comparison.{Comparison}
+use Rattle.tables.proofs.Lacking.{Counts, counts_as, counts_more}
+use Rattle.tables.proofs.Rowed.{code_read, row_counted}
+use Rattle.tables.proofs.comparison.hold_compositions.Goals as goal
+
+pub loop-row-preserved : goal.loop-row-preserved
+loop-row-preserved g c =
+    let m = g.K.Kind.meaning in
+    let words = g.K.Notation.words in
+    let table = c.args.table in
+    let rows = table.rows.now in
+    let none : Entries = record { letter = record { ref_ptr = (0, 0); now = [] }; entries = record { ref_ptr = (0, 0); now = [] } } in
+    let k = c.loop-row.row-index in
+    let within : k < length rows = omega arith in
+    let row = get_or rows k none in
+    let r = c.in_ok-r.r in
+    let old = c.loop-row.comparison.score.lacking in
+    let new = c.hold_row.new.self.score.lacking in
+    let (one, _, met) = c.in_ok-r.ensures.met in
+    let same : c.meet.new.self.score ≡ c.loop-row.comparison.score = ap (λ (x : Comparison). x.score) met in
+    let counted : Counts old new (EntriesAgree m words table r row.entries.now) =
+    subst (λ (s : Score). Counts s.lacking new (EntriesAgree m words table r row.entries.now)) same c.in_ok-hold_row.ensures.counted in
+    let here = row_counted m words table row r (code_read _ r (Ok r) c.in_ok-r.ensures.read refl) old new counted in
+    counts_more 0 old new (λ k. (d : Entries) → RowAgrees m words table (get_or rows k d)) k c.loop-row.invariant
+    (counts_as old new (λ agrees d. subst (λ (x : Entries). RowAgrees m words table x) (get_or_default rows k none d within) agrees) (λ all. all none) here)
+
+pub returns : goal.returns
+returns g c =
+    let (forth, back) = c.loop-row.invariant in
+    IfOk-weaker c.close.result _ _
+    (λ differing closed. (
+      λ zero k d l. (forth (omega (arith, closed.0))).1 k (omega arith) d,
+      λ agrees. omega (arith, closed.0, back (refl, λ k l d. agrees k d (omega arith))),
+    ))
+    c.close.ensures

@@ -1,0 +1,59 @@
+-- Each row counts in two compositions with the identity, after that of the identity with itself.
+use Rattle.std.proofs.Common.{◌≡◌, ◌<◌, [], Ok, get_or, length, ap, subst, refl, arith}
+use Rattle.std.proofs.lemmas.Bool.{false≢true}
+use Rattle.std.proofs.lemmas.List.{get_or_default}
+use Rattle.std.proofs.lemmas.Result.{IfOk-weaker}
+use Rattle.kinds.specs.Meaning.{Fits}
+use Rattle.tables.specs.Published.{NeutralAgrees}
+use Rattle.tables.specs.Scores.{score_after}
+use Rattle.tables.specs.declared.published.Entries.{Entries}
+use Rattle.tables.specs.declared.score.Score.{Score}
+use Rattle.tables.specs.declared.comparison.Comparison.{Comparison}
+use Rattle.tables.proofs.Lacking.{counts_as, counts_more}
+use Rattle.tables.proofs.Rowed.{code_read, neutral_counted, set_counted}
+use Rattle.tables.proofs.comparison.hold_identity.Goals as goal
+
+pub loop-row-preserved : goal.loop-row-preserved
+loop-row-preserved g c =
+    let m = g.K.Kind.meaning in
+    let words = g.K.Notation.words in
+    let letters = c.args.table.letters.0.now in
+    let rows = c.args.table.rows.now in
+    let none : Entries = record { letter = record { ref_ptr = (0, 0); now = [] }; entries = record { ref_ptr = (0, 0); now = [] } } in
+    let k = c.loop-row.row-index in
+    let within : k < length rows = omega arith in
+    let row = get_or rows k none in
+    let i = c.args.identity in
+    let r = c.in_ok-r.r in
+    let start = c.hold_composition.new.self.score in
+    let old = c.loop-row.comparison.score in
+    let mid = c.hold_composition-in-loop-row.new.self.score in
+    let new = c.hold_composition-in-loop-row-2.new.self.score in
+    let (one, _, met) = c.in_ok-r.ensures.met in
+    let same : c.meet.new.self.score ≡ old = ap (λ (x : Comparison). x.score) met in
+    let before = c.in_ok-hold_composition-2.ensures in
+    let after = c.in_ok-hold_composition-3.ensures in
+    let left = set_counted {P = Fits m i r} words letters row.letter.now old mid c.set-itself-in-loop-row.result c.set-itself-in-loop-row.ensures (λ none. false≢true (before.unread none))
+    (λ set is. let (agrees, decides, then) = before.counted set is in
+    (agrees, decides, subst (λ (s : Score). mid ≡ score_after s agrees) same (ap (λ (x : Comparison). x.score) then))) in
+    let right = set_counted {P = Fits m r i} words letters row.letter.now mid new c.set-itself-in-loop-row.result c.set-itself-in-loop-row.ensures (λ none. false≢true (after.unread none))
+    (λ set is. let (agrees, decides, then) = after.counted set is in (agrees, decides, ap (λ (x : Comparison). x.score) then)) in
+    let here = neutral_counted m words letters i r row.letter.now (code_read _ r (Ok r) c.in_ok-r.ensures.read refl) old.lacking mid.lacking new.lacking left right in
+    counts_more start.lacking old.lacking new.lacking (λ k. (d : Entries) → NeutralAgrees m words letters i (get_or rows k d).letter.now) k c.loop-row.invariant
+    (counts_as old.lacking new.lacking (λ agrees d. subst (λ (x : Entries). NeutralAgrees m words letters i x.letter.now) (get_or_default rows k none d within) agrees)
+    (λ all. all none) here)
+
+pub returns : goal.returns
+returns g c =
+    let i = c.args.identity in
+    let held = c.in_ok-hold_composition.ensures in
+    let first = set_counted {P = Fits g.K.Kind.meaning i i} g.K.Notation.words c.args.table.letters.0.now c.args.letter.now c.default.result.score c.hold_composition.new.self.score
+    c.set-itself.result c.set-itself.ensures (λ none. false≢true (held.unread none))
+    (λ set is. let (agrees, decides, then) = held.counted set is in (agrees, decides, ap (λ (x : Comparison). x.score) then)) in
+    let (forth, back) = c.loop-row.invariant in
+    IfOk-weaker c.close.result _ _
+    (λ differing closed. (
+      λ zero. let (none, rows) = forth (omega (arith, closed.0)) in ((first.0 none).1, λ k d l. rows k (omega arith) d),
+      λ both. omega (arith, closed.0, back (first.1 (c.default.ensures.1.1, both.0), λ k l d. both.1 k d (omega arith))),
+    ))
+    c.close.ensures
