@@ -1,5 +1,7 @@
 -- By its cost and the bounds of the other pairs, or by the triples that its last pair closes.
-use Rattle.std.proofs.Common.{◌≡◌, ℕ, ◌≤◌, Bool, false, ◌||◌, List, length, get_or, ap, ◌∙◌, arith}
+use Rattle.std.proofs.Common.{◌≡◌, ℕ, ◌+◌, ◌-◌, ◌≤◌, Bool, false, ◌||◌, List, length, get_or, ap, ◌∙◌, subst, arith}
+use Rattle.std.proofs.Math.Bool.{or-false}
+use Rattle.std.proofs.lemmas.Bool.{or_parts}
 use Rattle.std.proofs.lemmas.List.{get_or_default}
 use Rattle.search.specs.Closed.{rows_of, rules_of}
 use Rattle.rules.specs.Costs.{spent_on}
@@ -29,3 +31,18 @@ returns-then-length-eq0 g c =
     c.requires.cost c.join-bound.ensures
     (ap (λ (z : ℕ). unfit r sheet.items z c.args.self.now.cursor.now) c.if-length-eq0.true ∙ unfit_zero r sheet.items c.args.self.now.cursor.now) c.at_most.ensures
     ∙ c.if-at_most.false
+
+-- Given, since the search for it takes 14 s where it fails.
+pub returns : goal.returns
+returns g c =
+    let tables = c.args.self.now.tables.now in
+    let sheet = c.args.self.now.tables.now.sheet.now in
+    let a = c.args.self.now.cursor.now in
+    let r = rules_of sheet g.K.Kind.fit g.T.Joins.joining g.T.Tally.order in
+    let up : (c.args.length - 1) + 1 ≡ c.args.length = omega (arith, c.if-length-eq0.false) in
+    let before = (or_parts _ _ (c.requires.stands (c.args.length - 1) (omega (arith, c.if-length-eq0.false)))).0 in
+    let closed = subst (λ (z : ℕ). unfit r sheet.items z a ≡ c.closes_misfit.result) up (c.closes_misfit.ensures before) in
+    by_parts r sheet.items (rows_of sheet) c.args.best a tables.owed.now tables.owed_long tables.bounded
+    c.args.length c.requires.within (sheet.fits) c.args.cost c.index-self-length.result c.join-bound.result c.closes_misfit.result c.at_most.result
+    c.requires.cost c.join-bound.ensures closed c.at_most.ensures
+    ∙ ap (λ (v : Bool). c.closes_misfit.result || v) c.if-at_most.false ∙ or-false c.closes_misfit.result

@@ -1,7 +1,7 @@
 -- One more step with each turn, by the tables of the sheet.
 use Rattle.std.proofs.Common.{◌≡◌, ℕ, ◌+◌, ◌-◌, ◌^◌, ◌<◌, ◌≤◌, List, ◌++◌, length, take, drop, sym, refl, ap, ◌∙◌, subst, arith}
-use Rattle.std.proofs.lemmas.Option.{none-some}
-use Rattle.std.proofs.lemmas.List.{length-take-le}
+use Rattle.std.proofs.lemmas.Option.{none-some, same_Some}
+use Rattle.std.proofs.lemmas.List.{length-take-le, get_or_past}
 use Rattle.points.specs.Scenarios.{pairs}
 use Rattle.rules.specs.declared.row.Row.{Row}
 use Rattle.rules.specs.Orders.{Below, index}
@@ -9,7 +9,7 @@ use Rattle.rules.specs.Steps.{Rules, Position, position, step, advance, taken as
 use Rattle.rules.proofs.Orders.{index_lt}
 use Rattle.rules.proofs.Advances.{UnderWay, under_way_more, under_way_done}
 use Rattle.search.specs.Closed.{rows_of, position_of, rules_of}
-use Rattle.search.specs.Sheets.{Holds}
+use Rattle.search.specs.Sheets.{Holds, number_at}
 use Rattle.search.specs.Tables.{Keeps}
 use Rattle.search.proofs.Closed.{below_from, written_front, written_holds}
 use Rattle.search.proofs.sheet.Sheet.advance.Goals as goal
@@ -109,4 +109,65 @@ loop-taken-preserved g c =
       held = written_holds b p k same c.loop-taken.incumbent out inv.held e.below.0 long few;
       marked = written_holds b p k same c.loop-taken.cursor next inv.marked e.below.1 long' few;
       keeps = both (λ a z. Keeps r s.items (rows_of s) a z c.in-Some-step.next c.step.new.spent) e.keeps;
+    }
+
+-- Given, since the search for it takes 10 s where it fails.
+pub loop-taken-init : goal.loop-taken-init
+loop-taken-init g c =
+    let s = c.args.self.now in
+    let p : ℕ = pairs c.args.self.now.items in
+    let r = rules_of s g.K.Kind.fit g.T.Joins.joining g.T.Tally.order in
+    let few = c.args.self.now.fits in
+    let marked : Holds s.codes p c.in-Some.cursor = s.marked c.in-Some.cursor c.in-Some.is in
+    let long : length (take p c.in-Some.cursor) ≡ pairs c.args.self.now.items = length-take-le p c.in-Some.cursor (omega (arith, few, marked.long)) in
+    record {
+      under_way = subst (λ (m : ℕ). UnderWay r s.items (rows_of s) c.args.steps 0 (position_of s) (position (take p s.incumbent) m)) (ap (number_at s.codes p) c.in-Some.is)
+          (let z : c.args.steps ≡ c.args.steps - 0 = omega arith in record {
+            few = omega arith;
+            leads = ap (λ (i : ℕ). advance r s.items (rows_of s) i (position_of s)) z;
+            counts = (let t = ap (λ (i : ℕ). taken_of r s.items (rows_of s) i (position_of s)) z in omega (arith, t));
+          });
+      held = s.held;
+      marked = marked;
+      keeps = record {
+        best = c.cost.ensures;
+        stands = omega arith;
+        filled = omega (arith, c.pairs-count.ensures);
+        known = record { long = c.requires.1.1; costs = λ z l. absurd (omega (arith, l)); stands = λ z l. absurd (omega (arith, l)) };
+        blank = λ k l. get_or_past (take p c.in-Some.cursor) k 0 (omega (arith, c.pairs-count.ensures, long, l));
+      };
+    }
+
+-- Given, since the search for it takes 15 s where it fails.
+pub invariant_of-self-2 : goal.invariant_of-self-2
+invariant_of-self-2 g c =
+    let s = c.args.self.now in
+    let inv = c.loop-taken.invariant in
+    record {
+      some = s.some;
+      few = s.few;
+      fits = s.fits;
+      room = s.room;
+      sound = s.sound;
+      coded = s.coded;
+      narrow = s.narrow;
+      held = inv.held;
+      marked = λ a e. subst (Holds s.codes (pairs s.items)) (same_Some _ a e) inv.marked;
+    }
+
+-- Given, since the search for it takes 7 s where it fails.
+pub returns : goal.returns
+returns g c =
+    let s = c.args.self.now in
+    let r = rules_of s g.K.Kind.fit g.T.Joins.joining g.T.Tally.order in
+    let way = c.loop-taken.invariant.under_way in
+    let here : Position = position (take (pairs s.items) c.loop-taken.incumbent) (index s.codes (take (pairs s.items) c.loop-taken.cursor)) in
+    let none : c.args.steps - c.loop-taken.taken ≡ 0 = omega (arith, c.loop-taken-test.false) in
+    record {
+      advanced = sym (way.leads ∙ ap (λ (i : ℕ). advance r s.items (rows_of s) i here) none);
+      taken = (let last : c.args.steps ≡ c.loop-taken.taken = omega (arith, c.loop-taken.auto, c.loop-taken-test.false) in
+          let so_far = way.counts in
+          let more = ap (λ (i : ℕ). taken_of r s.items (rows_of s) i here) none in
+          omega (arith, last, so_far, more));
+      parts = (refl, refl, refl);
     }
