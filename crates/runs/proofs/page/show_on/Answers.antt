@@ -11,8 +11,6 @@ returns g c =
       record {
         each = grind (arith, common_steps);
         written = λ i other l. grind (arith, common_steps, h.1.written);
-        cost_is = h.1.cost_is;
-        floor_is = h.1.floor_is;
-        finished_is = h.1.finished_is;
+        costs = h.1.costs;
       },
     )
