@@ -8,6 +8,7 @@ pub mod Groups
 pub mod Costs
 pub mod Bounds
 pub mod Floors
+pub mod Prefixes
 pub mod Compared
 pub mod Steps
 pub mod Assignments
