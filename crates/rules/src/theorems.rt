@@ -6,11 +6,11 @@ ghost use Rattle.rules.specs.Soundness.{SearchSound, InParts, BoundBelow, BoundL
 use kinds::kind::Kind;
 use tallies::tally::{Joins, Tally};
 
-/// How many persons there are whose charges join to the cost of a scenario. So do the costs of its pairs. The numbers of scenarios keep
-/// their dictionary order, and a step passes over just those that share the refuted prefix. The search is sound: the incumbent is the
-/// first best of the scenarios before the cursor; and it may be carried out in parts. The lower bound of a pair is the least of its
-/// costs, and that of a prefix the least cost of the scenarios that begin with it; that of a sheet is that of the empty prefix, and at
-/// most the cost of each assignment.
+/// How many persons there are whose charges join to the cost of a scenario. So do the costs of its pairs. The numbers of scenarios are
+/// all those below the number of scenarios and keep their dictionary order, and a step passes over just those that share the refuted
+/// prefix. The search is sound: the incumbent is the first best of the scenarios before the cursor; and it may be carried out in parts.
+/// The lower bound of a pair is the least of its costs, and that of a prefix the least cost of the scenarios that begin with it; that of a
+/// sheet is that of the empty prefix, and at most the cost of each assignment.
 pub fn sound<K: Kind, T: Tally>() -> u8
     ensures persons { result ≡ 20 }
     ensures search { SearchSound K.Kind.meaning (rules K.Kind.meaning K.Kind.fit T.Joins.joining T.Tally.order) }
