@@ -17,3 +17,4 @@ pub mod Soundness
 pub mod Incumbents
 pub mod Advances
 pub mod Constraints
+pub mod Stated
