@@ -75,7 +75,7 @@ costs_count n rows scenario stated =
     ∙ span_same counted (λ s. joined counted (group spot s bs)) (λ s. cond (not (network rows s (o s))) 1 0) 0 (pairs n)
     (λ s lo hi. joined_counted (group spot s bs)
     ∙ ap length (sym (pair_broken o s (counting rows)))
-    ∙ one_broken (o s) (group spot s (counting rows)) (stated.one_a_pair s))
+    ∙ one_broken (o s) (group spot s (counting rows)) (omega (arith, stated.one_a_pair s)))
     ∙ span_counted (λ s. not (network rows s (o s))) 0 (pairs n)
 
 -- What values cost is what their scenario leaves unsatisfied.

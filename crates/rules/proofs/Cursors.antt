@@ -51,10 +51,27 @@ index_take b q a h l =
 past_is : (b q : ℕ) (a : List ℕ) → Below b a → q ≤ length a → past b (length a) q (index b a) ≡ (index b (take q a) + 1) * b ^ (length a - q)
 past_is b q a h l = ap (λ (z : ℕ). (z + 1) * b ^ (length a - q)) (index_take b q a h l)
 
--- The codes as digits are the scenario of that number.
+-- The codes of a scenario are the digits of its number.
+digits_same : (b : ℕ) (a : List ℕ) → Below b a → digits b (length a) (index b a) ≡ a
+digits_same b [] h = refl
+digits_same b (c ∷ a) h = digits_index b (length (c ∷ a)) (c ∷ a) (omega (arith, h.0)) h refl
+
+-- Where a scenario of one pair or more has the number m, there is a code.
+codes_some : (b p m : ℕ) → m < b ^ suc p → 0 < b
+codes_some zero p m l = absurd (omega (arith, pow-suc 0 p))
+codes_some (suc b) p m l = omega arith
+
+-- The scenarios of p pairs are numbered from 0 to b ^ p - 1.
 pub numbers : (b : ℕ) → Numbers b
-numbers b [] h = refl
-numbers b (c ∷ a) h = digits_index b (length (c ∷ a)) (c ∷ a) (omega (arith, h.0)) h refl
+numbers b = record { within = index_lt b; same = digits_same b; long = λ p m l. length_digits b p m; codes = codes; number = number }
+  where
+    codes : (p m : ℕ) → m < b ^ p → Below b (digits b p m)
+    codes zero m l = tt
+    codes (suc p) m l = below_digits b (suc p) m (codes_some b p m l)
+
+    number : (p m : ℕ) → m < b ^ p → index b (digits b p m) ≡ m
+    number zero m l = let one = pow-zero b in omega arith
+    number (suc p) m l = index_digits b (suc p) m (codes_some b p m l) l
 
 -- Of the scenarios from a on, those that share its first q codes are just those numbered below `past`.
 pub skips : (b : ℕ) → Skips b
@@ -67,7 +84,7 @@ skips b q (c ∷ a) e h g l within from = (
       subst (λ (n : ℕ). index b e / b ^ (n - q) ≡ index b (take q e)) l (index_take b q e g (omega (arith, within, l)))
       ∙ ap (index b) same ∙ sym (index_take b q (c ∷ a) h within) in
       subst (λ (z : ℕ). index b e < (z + 1) * b ^ (p - q)) quotient (past_beyond b p q (index b e) pos)),
-  λ less. shares_prefix b p q (index b (c ∷ a)) e pos within (index_lt b (c ∷ a) h) g l from less ∙ ap (take q) (numbers b (c ∷ a) h),
+  λ less. shares_prefix b p q (index b (c ∷ a)) e pos within (index_lt b (c ∷ a) h) g l from less ∙ ap (take q) (digits_same b (c ∷ a) h),
 )
   where
     p : ℕ

@@ -8,6 +8,7 @@ pub mod Groups
 pub mod Costs
 pub mod Bounds
 pub mod Floors
+pub mod Prefixes
 pub mod Compared
 pub mod Steps
 pub mod Assignments
@@ -16,3 +17,4 @@ pub mod Soundness
 pub mod Incumbents
 pub mod Advances
 pub mod Constraints
+pub mod Stated

@@ -12,12 +12,47 @@ use Rattle.rules.specs.Rows.{Proper}
 use Rattle.rules.specs.Costs.{cost, prefix_bound}
 use Rattle.rules.specs.Orders.{Below}
 use Rattle.rules.specs.Steps.{Rules, some, unfit, refuted}
-use Rattle.rules.specs.Soundness.{Assignment, codes_of, scenario_by, cost_by, rules}
+use Rattle.rules.specs.Soundness.{Assignment, codes_of, scenario_by, cost_by, Misfit, Unfits, rules}
 use Rattle.rules.proofs.Orders.{shared_code}
 use Rattle.rules.proofs.Scenarios.{length_scenario_of, entry_scenario_of}
 use Rattle.rules.proofs.Steps.{some_found, some_none}
 use Rattle.rules.proofs.Compared.{bound_transitive}
 use Rattle.rules.proofs.Assignments.{fits_by, below_scenario_by, cost_scenario_by}
+
+-- A prefix is unfit exactly if it holds a triple that does not fit.
+pub unfits : {C : Type 0} (r : Rules C) → Unfits r
+unfits r n q a = (
+  λ bad.
+      let ks = some_found n (λ k. some k (λ j. some j (test k j))) bad in
+      let js = some_found ks.0 (λ j. some j (test ks.0 j)) ks.2 in
+      let is = some_found js.0 (test ks.0 js.0) js.2 in
+      let fits : Bool = r.fit (entry a is.0 js.0) (entry a js.0 ks.0) (entry a is.0 ks.0) in
+      let both = and_parts (ltb (place js.0 ks.0) q) (not fits) is.2 in
+      record {
+        i = is.0;
+        j = js.0;
+        k = ks.0;
+        first = is.1;
+        second = js.1;
+        third = ks.1;
+        held = ltb-true (place js.0 ks.0) q both.0;
+        fails = not-true fits both.1;
+      },
+  λ t. elim (cases_Bool (unfit r n q a)) [
+    | inl bad ↦ bad
+    | inr good ↦
+        let at_k = some_none n (λ k. some k (λ j. some j (test k j))) good t.k t.third in
+        let at_j = some_none t.k (λ j. some j (test t.k j)) at_k t.j t.second in
+        let at_i = some_none t.j (test t.k t.j) at_j t.i t.first in
+        let fits : Bool = r.fit (entry a t.i t.j) (entry a t.j t.k) (entry a t.i t.k) in
+        absurd (both_ways (test t.k t.j t.i) at_i
+        (and_from (ltb (place t.j t.k) q) (not fits) (lt-ltb (place t.j t.k) q t.held) (not_from_false fits t.fails)))
+  ],
+)
+  where
+    -- Whether the prefix holds the pairs of these items and they do not fit.
+    test : ℕ → ℕ → ℕ → Bool
+    test k j i = ltb (place j k) q && not (r.fit (entry a i j) (entry a j k) (entry a i k))
 
 module _ {V C : Type 0} (m : Meaning V) (laws : Laws m) (fit : ℕ → ℕ → ℕ → Bool) (decides : (c d e : ℕ) → Decides (fit c d e) (Fits m c d e))
     (j : Joining Claim C) (monoid : Monoid j) (at_most : C → C → Bool) (ranking : Ranking j at_most)
@@ -29,22 +64,18 @@ module _ {V C : Type 0} (m : Meaning V) (laws : Laws m) (fit : ℕ → ℕ → �
   -- No assignment has a scenario with a triple that does not fit.
   pub unfit_none : (q : ℕ) (a : List ℕ) → unfit the_rules n q a ≡ true → (x : ℕ → V) → Assignment m n x → take q (scenario_by m n x) ≡ take q a → ⊥
   unfit_none q a bad x law shared =
-      let test : ℕ → ℕ → ℕ → Bool = λ l k i. ltb (place k l) q && not (fit (entry a i k) (entry a k l) (entry a i l)) in
-      let ls = some_found n (λ l. some l (λ k. some k (test l k))) bad in
-      let l : ℕ = ls.0 in
-      let ks = some_found l (λ k. some k (test l k)) ls.2 in
-      let k : ℕ = ks.0 in
-      let is = some_found k (test l k) ks.2 in
-      let i : ℕ = is.0 in
-      let both = and_parts (ltb (place k l) q) (not (fit (entry a i k) (entry a k l) (entry a i l))) is.2 in
-      let ik : i < k = is.1 in
-      let kl : k < l = ks.1 in
-      let ln : l < n = ls.1 in
-      let last : place k l < q = ltb-true (place k l) q both.0 in
+      let t : Misfit the_rules n q a = (unfits the_rules n q a).0 bad in
+      let i : ℕ = t.i in
+      let k : ℕ = t.j in
+      let l : ℕ = t.k in
+      let ik : i < k = t.first in
+      let kl : k < l = t.second in
+      let ln : l < n = t.third in
+      let last : place k l < q = t.held in
       let up : pairs k + k ≤ pairs l = pairs_up k l kl in
       let code : (c d : ℕ) → c < d → d < n → place c d < q → m.relation (x c) (x d) ≡ entry a c d =
       λ c d cd dn inside. sym (entry_scenario_of (codes_of m x) n c d cd dn) ∙ shared_code q (scenario_by m n x) a shared (place c d) inside in
-      both_ways (fit (entry a i k) (entry a k l) (entry a i l)) (not-true (fit (entry a i k) (entry a k l) (entry a i l)) both.1)
+      both_ways (fit (entry a i k) (entry a k l) (entry a i l)) t.fails
       ((decides (entry a i k) (entry a k l) (entry a i l)).1
       (fits_by m laws (x i) (x k) (x l) (law i (omega arith)) (law k (omega arith)) (law l ln) (entry a i k) (entry a k l) (entry a i l)
       (code i k ik (omega arith) (omega arith)) (code k l kl ln last) (code i l (omega arith) ln (omega arith))))
@@ -53,17 +84,12 @@ module _ {V C : Type 0} (m : Meaning V) (laws : Laws m) (fit : ℕ → ℕ → �
   pub fitting_whole : (a : List ℕ) → length a ≡ pairs n → Below m.codes a → unfit the_rules n (pairs n) a ≡ false → Fitting m n a
   fitting_whole a long low good = record {
     codes = λ i k ik kn. All-get_or (λ c. c < m.codes) a (place i k) 0 (omega (arith, place_within i k n ik kn)) low;
-    triples = λ i k l ik kl ln.
-        let test : ℕ → ℕ → ℕ → Bool = λ l k i. ltb (place k l) (pairs n) && not (fit (entry a i k) (entry a k l) (entry a i l)) in
-        let at_l = some_none n (λ l. some l (λ k. some k (test l k))) good l ln in
-        let at_k = some_none l (λ k. some k (test l k)) at_l k kl in
-        let at_i = some_none k (test l k) at_k i ik in
-        elim (cases_Bool (fit (entry a i k) (entry a k l) (entry a i l))) [
-          | inl fits ↦ (decides (entry a i k) (entry a k l) (entry a i l)).0 fits
-          | inr fails ↦ absurd (both_ways (test l k i) at_i
-              (and_from (ltb (place k l) (pairs n)) (not (fit (entry a i k) (entry a k l) (entry a i l)))
-              (lt-ltb (place k l) (pairs n) (place_within k l n kl ln)) (not_from_false (fit (entry a i k) (entry a k l) (entry a i l)) fails)))
-        ];
+    triples = λ i k l ik kl ln. elim (cases_Bool (fit (entry a i k) (entry a k l) (entry a i l))) [
+      | inl fits ↦ (decides (entry a i k) (entry a k l) (entry a i l)).0 fits
+      | inr fails ↦ absurd (both_ways (unfit the_rules n (pairs n) a) good
+          ((unfits the_rules n (pairs n) a).1
+          record { i = i; j = k; k = l; first = ik; second = kl; third = ln; held = place_within k l n kl ln; fails = fails }))
+    ];
   }
 
   -- An assignment whose scenario shares a refuted prefix costs at least as much as what refutes it.

@@ -1,5 +1,5 @@
 -- MAX-QCN: networks of constraints, and values that leave the fewest constraints unsatisfied.
-use Rattle.std.specs.Prelude.{◌≡◌, ℕ, ◌≤◌, Bool, true, not, List, length, count_by, nat_le, slice_index}
+use Rattle.std.specs.Prelude.{◌≡◌, ℕ, ◌^◌, ◌<◌, ◌≤◌, Bool, true, not, List, length, count_by, nat_le, slice_index}
 use Rattle.std.specs.List.{AllByRecursion as Every, list_all, range_with_len}
 use Rattle.points.specs.Scenarios.{pairs, entry}
 use Rattle.points.specs.Sets.{has}
@@ -8,6 +8,7 @@ use Rattle.tallies.specs.Groups.{group}
 use Rattle.tallies.specs.Weights.{by_weight}
 use Rattle.rules.specs.declared.row.Row.{Row}
 use Rattle.rules.specs.Rows.{counting, spot, Proper}
+use Rattle.rules.specs.Properly.{proper}
 use Rattle.rules.specs.Costs.{cost}
 use Rattle.rules.specs.Steps.{Position}
 use Rattle.rules.specs.Soundness.{Assignment, scenario_by, Settled, rules}
@@ -29,6 +30,18 @@ pub record StatesNetwork (n : ℕ) (rows : List Row) : Type 0 where
   pub proper : Proper n rows
   pub one_a_pair : (s : ℕ) → length (group spot s (counting rows)) ≤ 1
   pub all_one : Every (λ (r : Row). r.weight ≡ 1) (counting rows)
+
+-- Rows that a draft of n items may hold, with sets of b codes, and that state this network.
+pub record Stated (n b : ℕ) (net : Network) : Type 0 where
+  pub rows : List Row
+  pub held : proper n rows ≡ true
+  pub sets : Every (λ (r : Row). r.set < 2 ^ b) rows
+  pub states : StatesNetwork n rows
+  pub same : (s c : ℕ) → s < pairs n → c < b → network rows s c ≡ net s c
+
+-- Every network of at most 12 items can be stated.
+abbrev pub EveryStated : Type 0
+EveryStated = (n b : ℕ) (net : Network) → n ≤ 12 → Stated n b net
 
 -- By weight, the cost of a scenario is the number of constraints that it leaves unsatisfied.
 abbrev pub CostsCount : Type 0

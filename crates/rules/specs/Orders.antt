@@ -40,9 +40,15 @@ past b p q m = (m / b ^ (p - q) + 1) * b ^ (p - q)
 abbrev pub InOrder : ℕ → Type 0
 InOrder b = (a e : List ℕ) → Below b a → Below b e → length a ≡ length e → (Before a e ↔ (index b a < index b e))
 
--- The codes as digits are the scenario of that number.
-abbrev pub Numbers : ℕ → Type 0
-Numbers b = (a : List ℕ) → Below b a → digits b (length a) (index b a) ≡ a
+-- The scenarios of p pairs with codes below b are numbered from 0 to b ^ p - 1.
+pub record Numbers (b : ℕ) : Type 0 where
+  -- Each has a number there, and its codes are the digits of that number.
+  pub within : (a : List ℕ) → Below b a → index b a < b ^ length a
+  pub same : (a : List ℕ) → Below b a → digits b (length a) (index b a) ≡ a
+  -- Each number there has as digits the codes of a scenario with that number.
+  pub long : (p m : ℕ) → m < b ^ p → length (digits b p m) ≡ p
+  pub codes : (p m : ℕ) → m < b ^ p → Below b (digits b p m)
+  pub number : (p m : ℕ) → m < b ^ p → index b (digits b p m) ≡ m
 
 -- Of the scenarios from a on, those that share its first q codes are just those numbered below `past`.
 abbrev pub Skips : ℕ → Type 0

@@ -1,15 +1,15 @@
 -- What a search keeps: the incumbent is the first best of the scenarios before the cursor.
-use Rattle.std.specs.Prelude.{◌≡◌, ℕ, ◌+◌, ◌<◌, ◌≤◌, Bool, true, false, List, length, slice_index}
-use Rattle.points.specs.Scenarios.{pairs, entry}
+use Rattle.std.specs.Prelude.{◌≡◌, ℕ, ◌+◌, ◌<◌, ◌≤◌, Bool, true, false, Decides, List, length, take}
+use Rattle.points.specs.Scenarios.{pairs, place, entry}
 use Rattle.kinds.specs.Meaning.{Meaning, Fitting}
 use Rattle.tallies.specs.Groups.{span}
 use Rattle.tallies.specs.Joins.{Joining}
 use Rattle.tallies.specs.declared.claim.Claim.{Claim}
 use Rattle.rules.specs.declared.row.Row.{Row}
 use Rattle.rules.specs.Rows.{Proper}
-use Rattle.rules.specs.Costs.{of_rows, cost, charge, pair_cost, pair_bound, sheet_bound, spent_on}
+use Rattle.rules.specs.Costs.{of_rows, cost, charge, pair_cost, pair_bound, sheet_bound, spent_on, prefix_bound}
 use Rattle.rules.specs.Orders.{scenario_of, Below, Before, index}
-use Rattle.rules.specs.Steps.{Rules, Position, best_cost, total, step, opening, advance, taken}
+use Rattle.rules.specs.Steps.{Rules, Position, best_cost, unfit, total, step, opening, advance, taken}
 
 -- An assignment gives each of n items a lawful value.
 abbrev pub Assignment : {V : Type 0} → Meaning V → ℕ → (ℕ → V) → Type 0
@@ -81,6 +81,40 @@ abbrev pub BoundLeast : {C : Type 0} → Rules C → Type 0
 BoundLeast r = (n : ℕ) (rows : List Row) → Proper n rows → (s : ℕ)
     → ((c : ℕ) × (c < r.codes) × (pair_bound r.joining r.at_most r.codes rows s ≡ pair_cost r.joining rows s c))
     × ((c : ℕ) → c < r.codes → r.at_most (pair_bound r.joining r.at_most r.codes rows s) (pair_cost r.joining rows s c) ≡ true)
+
+-- The scenarios of n items, fitting or not, that begin with the first q codes of a.
+pub record Begins {C : Type 0} (r : Rules C) (n q : ℕ) (a e : List ℕ) : Type 0 where
+  pub long : length e ≡ pairs n
+  pub codes : Below r.codes e
+  pub shared : take q e ≡ take q a
+
+-- The lower bound of a prefix, the first q codes of a, is the least cost of all scenarios that begin with it.
+pub record PrefixLeast {C : Type 0} (r : Rules C) (n : ℕ) (rows : List Row) (q : ℕ) (a : List ℕ) : Type 0 where
+  -- It is the cost of one of them, and at most the cost of each.
+  pub attained : (e : List ℕ) × Begins r n q a e × (prefix_bound r.joining r.at_most r.codes (pairs n) rows q a ≡ cost r.joining rows (entry e))
+  pub below : (e : List ℕ) → Begins r n q a e → r.at_most (prefix_bound r.joining r.at_most r.codes (pairs n) rows q a) (cost r.joining rows (entry e)) ≡ true
+  -- That of the empty prefix is the lower bound of the sheet, and that of a whole scenario is its cost.
+  pub empty : q ≡ 0 → prefix_bound r.joining r.at_most r.codes (pairs n) rows q a ≡ sheet_bound r.joining r.at_most r.codes n rows
+  pub whole : q ≡ pairs n → prefix_bound r.joining r.at_most r.codes (pairs n) rows q a ≡ cost r.joining rows (entry a)
+
+-- So it is with every prefix of any codes.
+abbrev pub PrefixesLeast : {C : Type 0} → Rules C → Type 0
+PrefixesLeast r = (n : ℕ) (rows : List Row) (q : ℕ) (a : List ℕ) → Proper n rows → q ≤ pairs n → q ≤ length a → Below r.codes a → PrefixLeast r n rows q a
+
+-- Items i < j < k whose pairs are all among the first q, (j, k) being the last of them, and have codes that do not fit.
+pub record Misfit {C : Type 0} (r : Rules C) (n q : ℕ) (a : List ℕ) : Type 0 where
+  pub i : ℕ
+  pub j : ℕ
+  pub k : ℕ
+  pub first : i < j
+  pub second : j < k
+  pub third : k < n
+  pub held : place j k < q
+  pub fails : r.fit (entry a i j) (entry a j k) (entry a i k) ≡ false
+
+-- A prefix is unfit exactly if it holds a triple that does not fit.
+abbrev pub Unfits : {C : Type 0} → Rules C → Type 0
+Unfits r = (n q : ℕ) (a : List ℕ) → Decides (unfit r n q a) (Misfit r n q a)
 
 -- A search of k steps and then of l is one of k + l steps.
 abbrev pub InParts : {C : Type 0} → Rules C → Type 0

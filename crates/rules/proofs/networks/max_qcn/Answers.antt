@@ -1,6 +1,10 @@
 -- MAX-QCN, from the counts of constraints.
 use Rattle.rules.proofs.Constraints.{costs_count, max_qcn}
+use Rattle.rules.proofs.Stated.{every_stated}
 use Rattle.rules.proofs.networks.max_qcn.Goals as goal
+
+pub returns-clause-stated : goal.returns-clause-stated
+returns-clause-stated g c = every_stated
 
 pub returns-clause-costs : goal.returns-clause-costs
 returns-clause-costs g c = costs_count
