@@ -66,7 +66,8 @@ impl<'a> Reader<'a> {
     }
 
     /// Loads the statements of the head that waits into a draft, which takes the head's size first. A refused load leaves the head
-    /// waiting, and the draft with an empty list; where no head of the draft's kind and tally waits, the draft is as it was.
+    /// waiting, and the draft with an empty list; where no head of the draft's kind and tally waits, the draft is as it was. Clauses name
+    /// how the two are written part by part, by `spelled`, since no trait has both.
     pub fn load<K: Kind + Notation, T: Tally + TallyLetter>(
         &mut self,
         draft: &mut Draft<K, T>,
@@ -82,6 +83,8 @@ impl<'a> Reader<'a> {
             return Err(nowhere(LineFault::Field(0, FieldFault::Unknown)));
         }
         resize(draft, head.size);
+        // The fault is taken out by hand: `inspect_err(|_| clear(draft))?` was tried, and its proof did not close, as little is known of a
+        // draft after a closure that may change it.
         if let Err(fault) = load_body(&mut spot, draft) {
             clear(draft);
             return Err(fault);

@@ -9,7 +9,7 @@ pub enum Class {
     StatementLine,
 }
 
-/// Whether a head has come.
+/// Whether a head has come. By a rule of the project it is matched together with the class of a line, so that both are enums.
 #[derive(Clone, Copy)]
 pub enum State {
     NoSheet,

@@ -84,7 +84,7 @@ impl TryFrom<&[u8]> for HeadTally {
     }
 }
 
-/// The letter of a kind, as a byte. Letters are no discriminants, so a `match` tells them.
+/// The letter of a kind, as a byte. A `match`, since a discriminant would have to be written as a number.
 impl From<HeadKind> for u8 {
     ghost from_gives = { λ kind r. r ≡ kind_letter kind };
 
@@ -109,7 +109,7 @@ impl From<HeadTally> for u8 {
     }
 }
 
-// A size that drafts accept.
+// A size that drafts accept. `Draft::size` tests it of a draft, and a head has none.
 fn checked_size(size: u32) -> Result<u32, Fault>
     ensures { result ≡ given (is_in_range 1 12 size) size Size }
 {
@@ -127,6 +127,7 @@ pub fn parse_head(line: &[u8]) -> Result<Head, LineFault>
         return Err(LineFault::TooLong);
     }
     let mut fields = Parts::new(line, b' ');
+    // `let .. else`, as there is no one option for `?`, and a wrong number of fields is a fault of its own.
     let (Some(kind), Some(size), Some(tally), None) = (
         fields.next(),
         fields.next(),

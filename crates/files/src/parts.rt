@@ -12,7 +12,8 @@ pub struct Parts<'a> {
     rest: Option<&'a [u8]>,
 }
 
-/// Gives the lines of a text, one after another.
+/// Gives the lines of a text, one after another. The library's `split` has an empty part after a last line feed, which is no line, and
+/// can't be copied, as a load that may be refused needs.
 #[derive(Clone, Copy)]
 pub struct Lines<'a> {
     rest: &'a [u8],

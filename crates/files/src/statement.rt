@@ -31,6 +31,7 @@ pub fn parse_entry<K: Kind + Notation>(line: &[u8]) -> Result<Entry, LineFault>
         return Err(LineFault::TooLong);
     }
     let mut fields = Parts::new(line, b' ');
+    // `let .. else`, as in a head.
     let (Some(first), Some(second), Some(words), Some(weight), Some(person), sworn, None) = (
         fields.next(),
         fields.next(),

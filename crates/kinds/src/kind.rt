@@ -58,7 +58,8 @@ pub trait Kind {
     {
         for (i, place) in page.iter_mut().enumerate() {
             if i < usize::from(items) {
-                // The cast keeps i, which is below the number of items.
+                // The cast keeps i, which is below the number of items. With `zip(0..items)` in the place of the test and the cast, a proof
+                // knows none of the values written after the loop.
                 *place = Self::value(items, scenario, i as u8);
             }
         }

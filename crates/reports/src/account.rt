@@ -34,7 +34,7 @@ fn settling(heap: Global, steps: u32) -> Result<Vec<Call>, AllocError>
     Ok(script)
 }
 
-// What these calls answer.
+// What these calls answer. Clauses name the rules and the printing part by part, since no trait has both the kind and the tally.
 fn settle<K: Kind, T: Tally>(
     heap: Global,
     draft: Draft<K, T>,

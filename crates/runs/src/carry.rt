@@ -29,8 +29,8 @@ fn answer_of<V, C>(answered: Result<Answer<V, C>, Fault>) -> Answer<V, C>
     }
 }
 
-// A call of a draft, but for the one that closes it, which is not made here: a `match`, as each call has its own answer. Clauses name the rules by `rules ..` each time,
-// since no trait has both the kind and the tally.
+// A call of a draft, but for the one that closes it, which is not made here: a `match`, as each call has its own answer. Clauses name the
+// rules by `rules ..` each time, since no trait has both the kind and the tally.
 fn told_by_draft<K: Kind, T: Tally>(
     draft: &mut Draft<K, T>,
     call: Call,

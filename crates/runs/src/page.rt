@@ -25,7 +25,7 @@ pub(crate) fn page_of<K: Kind>(heap: Global, places: u8) -> Result<Vec<K::Value>
     Ok(page)
 }
 
-// Shows a closed sheet on a page.
+// Shows a closed sheet on a page. Clauses name the rules part by part, as at `told_by_draft`.
 pub(crate) fn show_on<K: Kind, T: Tally>(
     closed: &Closed<K, T>,
     page: Vec<K::Value>,

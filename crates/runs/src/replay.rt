@@ -15,7 +15,8 @@ use std::alloc::{AllocError, Global};
 use tallies::tally::{Joins, Tally};
 
 /// Carries out a script from a draft, by the calls of the draft and of the closed sheet, and answers what each of them answered. A call
-/// that the state does not take is not made, and its answer says so. Refused only for want of memory.
+/// that the state does not take is not made, and its answer says so. Refused only for want of memory. Clauses name the rules part by part,
+/// since no trait has both the kind and the tally.
 pub fn replay<K: Kind, T: Tally>(
     heap: Global,
     draft: Draft<K, T>,

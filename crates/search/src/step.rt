@@ -25,7 +25,8 @@ pub(crate) struct Kept<C> {
 }
 
 impl<'a, T: Tally> Tables<'a, T> {
-    // One step: what is kept for the next one, or none once the cursor has passed the last scenario.
+    // One step: what is kept for the next one, or none once the cursor has passed the last scenario. Clauses name the rules by `rules_of ..`,
+    // as at `Prefixes`.
     fn step<K: Kind>(
         &self,
         incumbent: &mut [u8],

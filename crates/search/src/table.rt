@@ -43,7 +43,8 @@ impl Sheet {
         ensures priced { Priced T.Joins.joining self.now.codes (rows_of self.now) 0 (pairs_of self.now.items) prices.new }
         ensures bounded { Owed T.Joins.joining T.Tally.order self.now.codes (rows_of self.now) 0 (pairs_of self.now.items) owed.new }
     {
-        // A loop over the places of the pairs: both tables are told by them.
+        // A loop over places: each turn reads the bound that the turn before has written, and after a loop that an adapter like `rev` or
+        // `zip` runs over `iter_mut`, a proof knows none of the items.
         let count = pairs(self.items);
         owed[count] = T::empty();
         for spot in (0..count).rev() {

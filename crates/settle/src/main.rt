@@ -76,7 +76,7 @@ fn settle<K: PrintedKind, T: PrintedTally>(
     Ok(print_bytes(rt, &buffer[..length])?)
 }
 
-/// The sheet whose head waits, by the kind and the tally that the head names.
+/// The sheet whose head waits, by the kind and the tally that the head names. These are types, so each pair has a call of its own.
 fn settle_one(rt: HostRuntime, reader: &mut Reader, head: Head, number: u64) -> Result<(), Stop> {
     match (head.kind, head.tally) {
         (HeadKind::Moments, HeadTally::ByWeight) => {

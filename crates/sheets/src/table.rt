@@ -9,7 +9,8 @@ ghost use Rattle.rules.specs.contracts.row.Row.{the_row as row_type};
 
 use rules::row::Row;
 
-/// A table of rows that lends them one at a time.
+/// A table of rows that lends them one at a time, by a rule of the project: a draft, whose type says what holds of its rows, lends none
+/// of itself.
 pub(crate) trait Table {
     /// How many rows there are.
     ghost many: { Self → ℕ };

@@ -10,7 +10,8 @@ pub fn converses<K: Kind>(set: u64) -> u64
     ensures is { result ≡ converses_of K.Kind.meaning.converse K.Kind.meaning.codes set }
     ensures turned { Turned K.Kind.meaning set result }
 {
-    // The converse of each code that is in the set goes into the answer, if it is below 64.
+    // The converse of each code that is in the set goes into the answer, if it is below 64. A chain is no plainer: the definition goes code
+    // by code, and a turn of the loop is a step of it.
     let mut turned: u64 = 0;
     for code in 0..K::count() {
         let converse = K::converse(code);

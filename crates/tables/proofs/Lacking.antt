@@ -15,10 +15,6 @@ counts_one old new false P d is =
     subst (λ (s : Score). Counts old.lacking s.lacking P) (sym is)
     (λ zero. absurd (omega (arith)), λ both. let no : false ≡ true = d.1 both.1 in cc)
 
--- none is counted in
-pub counts_none : (count : ℕ) (P : ℕ → Type 0) → Counts count count ((k : ℕ) → k < 0 → P k)
-counts_none count P = (λ zero. (zero, λ k l. absurd (omega arith)), λ both. both.0)
-
 -- one more is counted in
 pub counts_more : (a b c : ℕ) (P : ℕ → Type 0) (n : ℕ) → Counts a b ((k : ℕ) → k < n → P k) → Counts b c (P n) → Counts a c ((k : ℕ) → k < n + 1 → P k)
 counts_more a b c P n before here = (forth, back)

@@ -12,7 +12,8 @@ use kinds::kind::Kind;
 use kinds::notation::Notation;
 use std::io;
 
-/// The laws of a relation algebra. The identity has one for each side of a composition on which it stands.
+/// The laws of a relation algebra. The identity has one for each side of a composition on which it stands. A law is data: each has an
+/// extent and a test of its own, which a `match` tells.
 #[derive(Clone, Copy)]
 enum AlgebraLaw {
     LeftIdentity,

@@ -113,7 +113,7 @@ fn entries(rt: HostRuntime) -> Result<(), Fail> {
 #[test]
 fn at_most_256(rt: HostRuntime) -> Result<(), Fail> {
     let mut draft = draft_of(rt.alloc(), 2)?;
-    for number in 1..257u16 {
+    for number in 1..=256u16 {
         assert!(rt; draft.enter(GOOD) == Ok(number));
     }
     assert_eq!(rt; refusal(draft.enter(GOOD)), Some(7));

@@ -69,8 +69,7 @@ const OPEN: &str =
 #[test]
 fn an_open_report(rt: HostRuntime) -> Result<(), Fail> {
     let heap = rt.alloc();
-    let mut values = Vec::new(heap);
-    values.push(Spell { start: 0, end: 1 })?;
+    let values = vec![in heap; Spell { start: 0, end: 1 }]?;
     let cost = |sworn: u32, weight: u32| SwornCost { sworn, weight };
     let sight = Sight {
         values,

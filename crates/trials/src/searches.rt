@@ -37,7 +37,7 @@ fn circle(heap: Global) -> Result<Draft<Moments, ByWeight>, Fault> {
 fn seen<T: Tally>(closed: &Closed<Moments, T>) -> Result<([u32; 4], Shown<T::Cost>), Fault> {
     let mut page = [NOWHERE; 4];
     let shown = closed.show(&mut page)?;
-    Ok(([page[0].at, page[1].at, page[2].at, page[3].at], shown))
+    Ok((page.map(|moment| moment.at), shown))
 }
 
 #[test]
