@@ -62,6 +62,6 @@ pub record Realises {V : Type 0} (m : Meaning V) (n : ℕ) (scenario : List ℕ)
   pub related : (i j : ℕ) → i < j → j < n → m.holds (entry scenario i j) (value i) (value j)
 
 -- The realisation duty: for 1 to 12 items, the values for a scenario whose triples all fit have it. So each algebraically closed atomic
--- network has a solution.
+-- network of so many items has a solution.
 abbrev pub Realisation : {V : Type 0} → Meaning V → (ℕ → List ℕ → ℕ → V) → Type 0
 Realisation m values = (n : ℕ) (scenario : List ℕ) → 1 ≤ n → n ≤ 12 → Fitting m n scenario → Realises m n scenario (values n scenario)
