@@ -1,6 +1,6 @@
 -- Dwellings are one mark on each of two axes.
 use Rattle.std.specs.Prelude.{◌≡◌, ℕ, zero, suc, ◌<◌, Bool, ◌&&◌, T, nat_lt, refl}
-use Rattle.std.proofs.Common.{arith, not-suc-le-zero, le_of_suc-le-suc}
+use Rattle.std.proofs.Common.{ap₂, arith, not-suc-le-zero, le_of_suc-le-suc}
 use Prim.Native.Nat.{Ordering, compare}
 use Rattle.std.proofs.lemmas.Bool.{ltb-true}
 use Rattle.points.specs.Points.{Says, same as alike}
@@ -64,12 +64,17 @@ abbrev number : Dwelling → ℕ → ℕ → ℕ
 number v zero s = v.east
 number v (suc a) s = v.north
 
+-- the dwelling with these two numbers
+abbrev at_numbers : ℕ → ℕ → Dwelling
+at_numbers x y = record { east = x; north = y }
+
 pub charted : Frame dwellings compass
 charted = record {
   number = number;
-  make = λ f. record { east = f 0 0; north = f 1 0 };
+  make = λ f. at_numbers (f 0 0) (f 1 0);
   made = made;
   same_codes = refl;
+  determined = λ u v e. ap₂ at_numbers (e 0 0 (omega arith) (omega arith)) (e 1 0 (omega arith) (omega arith));
   ascends = λ v h a s t ha hs ht. alone v a s t hs ht;
   lawful = λ v h. tt;
   seen = λ u v hu hv c h. (h.0, λ a s t ha hs ht. seen u v c (axes_of (coded c) u v h.1) a s t);
@@ -89,7 +94,7 @@ charted = record {
   few = omega arith;
 }
   where
-    made : (f : ℕ → ℕ → ℕ) (a s : ℕ) → a < 2 → s < 1 → number (record { east = f 0 0; north = f 1 0 }) a s ≡ f a s
+    made : (f : ℕ → ℕ → ℕ) (a s : ℕ) → a < 2 → s < 1 → number (at_numbers (f 0 0) (f 1 0)) a s ≡ f a s
     made f zero zero ha hs = refl
     made f zero (suc s) ha hs = absurd (not-suc-le-zero (le_of_suc-le-suc hs))
     made f (suc zero) zero ha hs = refl

@@ -40,7 +40,7 @@ code Ordering.lt Ordering.lt = 6
 code Ordering.lt Ordering.eq = 7
 code Ordering.lt Ordering.gt = 8
 
--- every dwelling is lawful
+-- The kind of dwellings: nine base relations, which compare both numbers of two dwellings. Every dwelling is lawful.
 abbrev pub dwellings : Meaning Dwelling
 dwellings = record {
   codes = 9;

@@ -17,7 +17,7 @@ use Rattle.spells.specs.Spelled.{spelled}
 use Rattle.rules.specs.Steps.{searched}
 use Rattle.figures.specs.Small.{moments_by_weight, moments_sworn_first, household, lone, sworn_pair}
 use Rattle.figures.proofs.Searched.{finished_after}
-use Rattle.figures.specs.Figures.{code, Composed, Figures}
+use Rattle.figures.specs.Figures.{code, Composed, Words, Figures}
 
 -- whether a number stands in the list, and whether all numbers of the list are below b
 abbrev among : ℕ → List ℕ → Bool
@@ -89,3 +89,32 @@ figures =
     ▸ record { steps = finished_after moments_by_weight 1 lone 0 tt; costs = refl; gives = refl }
     ▸ record { steps = finished_after moments_sworn_first 2 sworn_pair 2 tt; costs = refl; gives = refl }
     ▸ tt
+
+pub words : Words
+words = record {
+  equal = refl;
+  earlier = refl;
+  later = refl;
+  equals = refl;
+  before = refl;
+  after = refl;
+  meets = refl;
+  met_by = refl;
+  overlaps = refl;
+  overlapped_by = refl;
+  starts = refl;
+  started_by = refl;
+  during = refl;
+  contains = refl;
+  finishes = refl;
+  finished_by = refl;
+  same = refl;
+  north = refl;
+  north_east = refl;
+  east = refl;
+  south_east = refl;
+  south = refl;
+  south_west = refl;
+  west = refl;
+  north_west = refl;
+}

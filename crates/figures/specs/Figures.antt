@@ -21,6 +21,49 @@ code words word = unwrap_or (read words (codes word)) 64
 abbrev pub Composed : {V : Type 0} → Meaning V → List (List ℕ) → String → String → List String → Type 0
 Composed m words first second these = (e : ℕ) → Fits m (code words first) (code words second) e ↔ Has e (map (code words) these)
 
+-- The relation of a first value to a second is the one with this word. Moments are given by their numbers, spells by start and end,
+-- dwellings by east number and north number.
+abbrev pub MomentStands : ℕ → String → ℕ → Type 0
+MomentStands x word y = moments.relation (record { at = x }) (record { at = y }) ≡ code moment_words word
+
+abbrev pub SpellStands : ℕ × ℕ → String → ℕ × ℕ → Type 0
+SpellStands x word y = spells.relation (record { start = x.0; end = x.1 }) (record { start = y.0; end = y.1 }) ≡ code spell_words word
+
+abbrev pub DwellingStands : ℕ × ℕ → String → ℕ × ℕ → Type 0
+DwellingStands x word y = dwellings.relation (record { east = x.0; north = x.1 }) (record { east = y.0; north = y.1 }) ≡ code dwelling_words word
+
+-- An example of each word, made by hand from what the word means. The table below holds as well with `s` and `f` exchanged, or with
+-- north and south; these examples do not.
+pub record Words : Type 0 where
+  -- moments
+  pub equal : MomentStands 1 "=" 1
+  pub earlier : MomentStands 0 "<" 1
+  pub later : MomentStands 1 ">" 0
+  -- spells
+  pub equals : SpellStands (0, 1) "eq" (0, 1)
+  pub before : SpellStands (0, 1) "p" (2, 3)
+  pub after : SpellStands (2, 3) "pi" (0, 1)
+  pub meets : SpellStands (0, 1) "m" (1, 2)
+  pub met_by : SpellStands (1, 2) "mi" (0, 1)
+  pub overlaps : SpellStands (0, 2) "o" (1, 3)
+  pub overlapped_by : SpellStands (1, 3) "oi" (0, 2)
+  pub starts : SpellStands (0, 1) "s" (0, 2)
+  pub started_by : SpellStands (0, 2) "si" (0, 1)
+  pub during : SpellStands (1, 2) "d" (0, 3)
+  pub contains : SpellStands (0, 3) "di" (1, 2)
+  pub finishes : SpellStands (1, 2) "f" (0, 2)
+  pub finished_by : SpellStands (0, 2) "fi" (1, 2)
+  -- dwellings, each seen from the dwelling with the numbers 1 and 1
+  pub same : DwellingStands (1, 1) "eq" (1, 1)
+  pub north : DwellingStands (1, 2) "n" (1, 1)
+  pub north_east : DwellingStands (2, 2) "ne" (1, 1)
+  pub east : DwellingStands (2, 1) "e" (1, 1)
+  pub south_east : DwellingStands (2, 0) "se" (1, 1)
+  pub south : DwellingStands (1, 0) "s" (1, 1)
+  pub south_west : DwellingStands (0, 0) "sw" (1, 1)
+  pub west : DwellingStands (0, 1) "w" (1, 1)
+  pub north_west : DwellingStands (0, 2) "nw" (1, 1)
+
 -- Two spells with m are written (0, 1) and (1, 3).
 pub record Meeting : Type 0 where
   pub first : spell 2 (code spell_words "m" ∷ []) 0 ≡ record { start = 0; end = 1 }

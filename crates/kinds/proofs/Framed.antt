@@ -8,7 +8,7 @@ use Rattle.points.specs.Scenarios.{entry}
 use Rattle.points.specs.Sets.{has}
 use Rattle.points.specs.Marks.{in_scenario}
 use Rattle.points.proofs.Finite.{both_left, both_right, both_from, implies, implied, true_from, holds_from, upto_at, upto_from}
-use Rattle.points.proofs.Compare.{same_eq, compare_converse, compose_compare, converse_converse}
+use Rattle.points.proofs.Compare.{same_eq, says, compare_self, compare_converse, compose_compare, converse_converse}
 use Rattle.points.proofs.Tabled.{has_beyond}
 use Rattle.points.proofs.Marked.{Fitting as FittingMarks, ranks_pair, ranks_own}
 use Rattle.kinds.specs.Meaning.{Meaning, ExactlyOne, Laws, Involutive, Fits, Fitting, Realises}
@@ -59,6 +59,8 @@ pub record Frame {V : Type 0} (m : Meaning V) (l : Layout) : Type 0 where
   pub make : (ℕ → ℕ → ℕ) → V
   pub made : (f : ℕ → ℕ → ℕ) (a s : ℕ) → a < l.axes → s < l.marks → number (make f) a s ≡ f a s
   pub same_codes : m.codes ≡ l.codes
+  -- values with the same marks are the same
+  pub determined : (u v : V) → ((a s : ℕ) → a < l.axes → s < l.marks → number u a s ≡ number v a s) → u ≡ v
   -- a value is lawful where its marks ascend
   pub ascends : (v : V) → m.lawful v → Sides l (λ a s t. compare (number v a s) (number v a t) ≡ compare s t)
   pub lawful : (v : V) → Sides l (λ a s t. compare (number v a s) (number v a t) ≡ compare s t) → m.lawful v
@@ -102,9 +104,18 @@ module _ {V : Type 0} (m : Meaning V) (l : Layout) (f : Frame m l) where
         only = λ c h. let s = f.seen u v hu hv c h in only_one u v c (m.relation u v) s.0 t.0 s.1 t.1;
       }
 
+  -- under code 0 marks stand as those of one item do
+  own_side : (a s t : ℕ) → a < l.axes → s < l.marks → t < l.marks → compare s t ≡ l.side a 0 s t
+  own_side a s t ha hs ht = same_eq (compare s t) (l.side a 0 s t) (sides_at l (λ a s t. same (compare s t) (l.side a 0 s t)) f.selves a s t ha hs ht)
+
   self : (u : V) → m.lawful u → m.holds 0 u u
-  self u hu = f.holds u u hu hu 0 f.some (λ a s t ha hs ht.
-      f.ascends u hu a s t ha hs ht ∙ same_eq (compare s t) (l.side a 0 s t) (sides_at l (λ a s t. same (compare s t) (l.side a 0 s t)) f.selves a s t ha hs ht))
+  self u hu = f.holds u u hu hu 0 f.some (λ a s t ha hs ht. f.ascends u hu a s t ha hs ht ∙ own_side a s t ha hs ht)
+
+  -- where code 0 holds each mark is level with its like
+  only_self : (u v : V) → m.lawful u → m.lawful v → m.holds 0 u v → u ≡ v
+  only_self u v hu hv h =
+      let k = f.seen u v hu hv 0 h in
+      f.determined u v (λ a s ha hs. says Prim.Native.Nat.Ordering.eq (f.number u a s) (f.number v a s) (k.1 a s s ha hs hs ∙ sym (own_side a s s ha hs hs) ∙ compare_self s))
 
   -- the converse of a code is a code, with the sides turned round
   turned_code : (c : ℕ) → c < l.codes → (m.converse c < l.codes) × Sides l (λ a s t. turned_round (l.side a c t s) ≡ l.side a (m.converse c) s t)
@@ -123,9 +134,11 @@ module _ {V : Type 0} (m : Meaning V) (l : Layout) (f : Frame m l) where
       f.holds v u hv hu (m.converse c) turn.0
       (λ a x y ha hx hy. compare_converse (f.number u a y) (f.number v a x) ∙ ap turned_round (s.1 a y x ha hy hx) ∙ turn.1 a x y ha hx hy)
 
+  inside : (c : ℕ) → c < m.codes → c < l.codes
+  inside c h = subst (λ (b : ℕ). c < b) f.same_codes h
+
   pub involutive : Involutive m
   involutive =
-      let inside : (c : ℕ) → c < m.codes → c < l.codes = λ c h. subst (λ (b : ℕ). c < b) f.same_codes h in
       record {
         code = λ c h. subst (λ (b : ℕ). m.converse c < b) (sym f.same_codes) (turned_code c (inside c h)).0;
         back = λ c h.
@@ -135,30 +148,25 @@ module _ {V : Type 0} (m : Meaning V) (l : Layout) (f : Frame m l) where
             sym (twice.1 a s t ha hs ht) ∙ ap turned_round (sym (once.1 a t s ha ht hs)) ∙ sym (converse_converse (l.side a c s t)));
       }
 
-  pub laws : Laws m
-  laws = record {
-    some_codes = subst (λ (b : ℕ). 1 ≤ b) (sym f.same_codes) f.some;
-    few_codes = subst (λ (b : ℕ). b ≤ 64) (sym f.same_codes) f.few;
-    one = one;
-    self = self;
-    turned = turned;
-  }
+  -- the test of three codes whose marks fit
+  fit_codes : (c d e : ℕ) → c < l.codes → d < l.codes → e < l.codes → T (marks_fit l c d e) → T (fit l c d e)
+  fit_codes c d e hc hd he inner =
+      both_from (ltb c l.codes) (ltb d l.codes && (ltb e l.codes && marks_fit l c d e)) (holds_from (ltb c l.codes) (lt-ltb c l.codes hc))
+      (both_from (ltb d l.codes) (ltb e l.codes && marks_fit l c d e) (holds_from (ltb d l.codes) (lt-ltb d l.codes hd))
+      (both_from (ltb e l.codes) (marks_fit l c d e) (holds_from (ltb e l.codes) (lt-ltb e l.codes he)) inner))
 
   pub fit_from : (c d e : ℕ) → Fits m c d e → T (fit l c d e)
   fit_from c d e h =
       let p = f.seen h.u h.v h.u_lawful h.v_lawful c h.first in
       let q = f.seen h.v h.w h.v_lawful h.w_lawful d h.second in
       let o = f.seen h.u h.w h.u_lawful h.w_lawful e h.across in
-      let inner : T (marks_fit l c d e) =
-      sides_from l (λ a s t. upto l.marks (λ r. compose (l.side a c s t) (l.side a d t r) (l.side a e s r))) (λ a s t ha hs ht.
+      fit_codes c d e p.0 q.0 o.0
+      (sides_from l (λ a s t. upto l.marks (λ r. compose (l.side a c s t) (l.side a d t r) (l.side a e s r))) (λ a s t ha hs ht.
       upto_from l.marks (λ r. compose (l.side a c s t) (l.side a d t r) (l.side a e s r)) (λ r hr.
       let x : ℕ = f.number h.u a s in let y : ℕ = f.number h.v a t in let z : ℕ = f.number h.w a r in
       subst (λ (w : Ordering). T (compose w (l.side a d t r) (l.side a e s r))) (p.1 a s t ha hs ht)
       (subst (λ (w : Ordering). T (compose (compare x y) w (l.side a e s r))) (q.1 a t r ha ht hr)
-      (subst (λ (w : Ordering). T (compose (compare x y) (compare y z) w)) (o.1 a s r ha hs hr) (compose_compare x y z))))) in
-      both_from (ltb c l.codes) (ltb d l.codes && (ltb e l.codes && marks_fit l c d e)) (holds_from (ltb c l.codes) (lt-ltb c l.codes p.0))
-      (both_from (ltb d l.codes) (ltb e l.codes && marks_fit l c d e) (holds_from (ltb d l.codes) (lt-ltb d l.codes q.0))
-      (both_from (ltb e l.codes) (marks_fit l c d e) (holds_from (ltb e l.codes) (lt-ltb e l.codes o.0)) inner))
+      (subst (λ (w : Ordering). T (compose (compare x y) (compare y z) w)) (o.1 a s r ha hs hr) (compose_compare x y z))))))
 
   -- what a test that passes tells
   record Fit (c d e : ℕ) : Type 0 where
@@ -294,6 +302,33 @@ module _ {V : Type 0} (m : Meaning V) (l : Layout) (f : Frame m l) where
 
   pub composes : (c d e : ℕ) → Decides (fit l c d e) (Fits m c d e)
   composes c d e = (λ h. fit_gives c d e (holds_from (fit l c d e) h), λ h. true_from (fit l c d e) (fit_from c d e h))
+
+  -- each code fits with code 0 and itself
+  fits_self : (c : ℕ) → c < l.codes → T (fit l c 0 c)
+  fits_self c hc =
+      fit_codes c 0 c hc f.some hc
+      (sides_from l (λ a s t. upto l.marks (λ r. compose (l.side a c s t) (l.side a 0 t r) (l.side a c s r))) (λ a s t ha hs ht.
+      upto_from l.marks (λ r. compose (l.side a c s t) (l.side a 0 t r) (l.side a c s r)) (λ r hr.
+      subst (λ (o : Ordering). T (compose (l.side a c s t) o (l.side a c s r))) (own_side a t r ha ht hr)
+      (both_right (compose (compare s t) (l.side a c t r) (l.side a c s r)) (compose (l.side a c s t) (compare t r) (l.side a c s r))
+      (item_fits c hc a s t r ha hs ht hr)))))
+
+  -- so it holds of some values, those that are counted
+  occurs : (c : ℕ) → c < m.codes → (u : V) × (v : V) × m.lawful u × m.lawful v × m.holds c u v
+  occurs c h =
+      let found : Fits m c 0 c = fit_gives c 0 c (fits_self c (inside c h)) in
+      (found.u, found.v, found.u_lawful, found.v_lawful, found.first)
+
+  pub laws : Laws m
+  laws = record {
+    some_codes = subst (λ (b : ℕ). 1 ≤ b) (sym f.same_codes) f.some;
+    few_codes = subst (λ (b : ℕ). b ≤ 64) (sym f.same_codes) f.few;
+    one = one;
+    occurs = occurs;
+    self = self;
+    only_self = only_self;
+    turned = turned;
+  }
 
 -- three numbers that are codes
 abbrev Codes : Layout → ℕ → ℕ → ℕ → Type 0

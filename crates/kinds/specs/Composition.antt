@@ -1,4 +1,5 @@
--- Composition: the base relations that can hold from u to w, given those from u to v and from v to w.
+-- Composition: the base relations that can hold from u to w, given those from u to v and from v to w. It is the weak composition over
+-- natural numbers: e is in it if some values have the three relations.
 use Rattle.std.specs.Prelude.{ℕ, Decides}
 use Rattle.points.specs.Sets.{has}
 use Rattle.kinds.specs.Meaning.{Meaning, Fits}

@@ -14,19 +14,23 @@ pub record Meaning (V : Type 0) : Type 1 where
   -- the code of the converse of a base relation
   pub converse : ℕ → ℕ
 
--- Exactly one base relation holds from u to v: the one that `relation` tells.
+-- Exactly one base relation holds from u to v, the one that `relation` tells: `below` and `that` say that the base relations are jointly
+-- exhaustive, `only` that they are pairwise disjoint.
 pub record ExactlyOne {V : Type 0} (m : Meaning V) (u v : V) : Type 0 where
   pub below : m.relation u v < m.codes
   pub that : m.holds (m.relation u v) u v
   pub only : (c : ℕ) → m.holds c u v → c ≡ m.relation u v
 
--- The duties of a kind: of two lawful values exactly one base relation holds, code 0 of a value and itself, and the converse the other
--- way. That each base relation holds of some values, and code 0 of equal ones alone, is not asked.
+-- The duties of a kind. Its base relations are jointly exhaustive, pairwise disjoint, non-empty, and one of them is the identity: of two
+-- lawful values exactly one holds (`one`), each holds of some lawful values (`occurs`), and code 0 holds of a value and itself (`self`)
+-- and of no two others (`only_self`). The converse of a base relation holds the other way (`turned`).
 pub record Laws {V : Type 0} (m : Meaning V) : Type 0 where
   pub some_codes : 1 ≤ m.codes
   pub few_codes : m.codes ≤ 64
   pub one : (u v : V) → m.lawful u → m.lawful v → ExactlyOne m u v
+  pub occurs : (c : ℕ) → c < m.codes → (u : V) × (v : V) × m.lawful u × m.lawful v × m.holds c u v
   pub self : (u : V) → m.lawful u → m.holds 0 u u
+  pub only_self : (u v : V) → m.lawful u → m.lawful v → m.holds 0 u v → u ≡ v
   pub turned : (u v : V) → m.lawful u → m.lawful v → (c : ℕ) → m.holds c u v → m.holds (m.converse c) v u
 
 -- The converse of a code is a code, and the converse of that is the code itself.
@@ -46,7 +50,8 @@ pub record Fits {V : Type 0} (m : Meaning V) (c d e : ℕ) : Type 0 where
   pub second : m.holds d v w
   pub across : m.holds e u w
 
--- Every entry of a scenario of n items is a code, and every triple i < j < k of it fits: (i, j), (j, k) and (i, k).
+-- Every entry of a scenario of n items is a code, and every triple i < j < k of it fits: (i, j), (j, k) and (i, k). Such a scenario is an
+-- atomic network that is algebraically closed (path-consistent).
 pub record Fitting {V : Type 0} (m : Meaning V) (n : ℕ) (scenario : List ℕ) : Type 0 where
   pub codes : (i j : ℕ) → i < j → j < n → entry scenario i j < m.codes
   pub triples : (i j k : ℕ) → i < j → j < k → k < n → Fits m (entry scenario i j) (entry scenario j k) (entry scenario i k)
@@ -56,6 +61,7 @@ pub record Realises {V : Type 0} (m : Meaning V) (n : ℕ) (scenario : List ℕ)
   pub lawful : (i : ℕ) → i < n → m.lawful (value i)
   pub related : (i j : ℕ) → i < j → j < n → m.holds (entry scenario i j) (value i) (value j)
 
--- The realisation duty: for 1 to 12 items, the values for a scenario whose triples all fit have it.
+-- The realisation duty: for 1 to 12 items, the values for a scenario whose triples all fit have it. So each algebraically closed atomic
+-- network of so many items has a solution.
 abbrev pub Realisation : {V : Type 0} → Meaning V → (ℕ → List ℕ → ℕ → V) → Type 0
 Realisation m values = (n : ℕ) (scenario : List ℕ) → 1 ≤ n → n ≤ 12 → Fitting m n scenario → Realises m n scenario (values n scenario)

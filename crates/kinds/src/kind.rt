@@ -68,7 +68,8 @@ pub trait Kind {
     /// The codes are those that are meant.
     ghost counted: { CODES ≡ meaning.codes };
 
-    /// Exactly one base relation holds; code 0 from a value to itself; the converse the other way.
+    /// Exactly one base relation holds; each holds of some values; code 0 from a value to itself, and to no other; the converse the other
+    /// way.
     ghost lawful: { Laws meaning };
 
     /// The converse of the converse is the base relation itself.

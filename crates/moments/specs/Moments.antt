@@ -6,7 +6,7 @@ use Rattle.moments.specs.declared.Moment.{Moment}
 use Rattle.kinds.specs.Meaning.{Meaning}
 use Rattle.kinds.specs.Layouts.{Layout, rank_on}
 
--- the base relations, in the order of their codes
+-- the base relation with this code
 abbrev pub coded : ℕ → Ordering
 coded c = slice_index_or (Ordering.eq ∷ Ordering.lt ∷ Ordering.gt ∷ []) c Ordering.eq
 
@@ -16,7 +16,7 @@ code Ordering.eq = 0
 code Ordering.lt = 1
 code Ordering.gt = 2
 
--- every moment is lawful
+-- The kind of moments: three base relations, which compare the numbers of two moments. Every moment is lawful.
 abbrev pub moments : Meaning Moment
 moments = record {
   codes = 3;

@@ -1,6 +1,6 @@
 -- Moments are one mark on one line.
 use Rattle.std.specs.Prelude.{◌≡◌, ℕ, zero, suc, ◌<◌, refl}
-use Rattle.std.proofs.Common.{arith, not-suc-le-zero, le_of_suc-le-suc}
+use Rattle.std.proofs.Common.{ap, arith, not-suc-le-zero, le_of_suc-le-suc}
 use Prim.Native.Nat.{Ordering, compare}
 use Rattle.points.proofs.Compare.{said, says, compare_self}
 use Rattle.moments.specs.declared.Moment.{Moment}
@@ -18,12 +18,17 @@ code_below Ordering.lt = omega arith
 code_below Ordering.eq = omega arith
 code_below Ordering.gt = omega arith
 
+-- the moment with this number
+abbrev at_number : ℕ → Moment
+at_number k = record { at = k }
+
 pub timed : Frame moments line
 timed = record {
   number = λ v a s. v.at;
-  make = λ f. record { at = f 0 0 };
+  make = λ f. at_number (f 0 0);
   made = only;
   same_codes = refl;
+  determined = λ u v e. ap at_number (e 0 0 (omega arith) (omega arith));
   ascends = λ v h a s t ha hs ht. alone v s t hs ht;
   lawful = λ v h. tt;
   seen = λ u v hu hv c h. (h.0, λ a s t ha hs ht. said (coded c) u.at v.at h.1);

@@ -16,7 +16,7 @@ converse Ordering.lt = Ordering.gt
 converse Ordering.eq = Ordering.eq
 converse Ordering.gt = Ordering.lt
 
--- a base relation, as the code tells it
+-- a base relation, as the Rust type `Ordering` has it
 abbrev pub told : Ordering → Answer
 told Ordering.lt = Less
 told Ordering.eq = Equal

@@ -1,5 +1,6 @@
 -- Scenarios: one base relation for each pair of items i < j, by its code, in the order (0, 1), (0, 2), (1, 2), (0, 3), ..
--- Items are counted from 0 here, and from 1 where they are printed.
+-- A scenario here is any choice of a base relation for each pair, consistent or not. (In the literature a scenario is consistent, and
+-- any choice is an atomic network.) Items are counted from 0 here, and from 1 where they are printed.
 use Rattle.std.specs.Prelude.{ℕ, zero, suc, ◌+◌, List, slice_index}
 
 -- how many pairs n items have

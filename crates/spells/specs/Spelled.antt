@@ -1,6 +1,6 @@
 -- Spells are two marks on one line.
 use Rattle.std.specs.Prelude.{◌≡◌, ℕ, zero, suc, ◌<◌, Bool, ◌&&◌, T, map, get_or, slice_index_or, refl}
-use Rattle.std.proofs.Common.{sym, ap, ◌∙◌, subst, arith, not-suc-le-zero, le_of_suc-le-suc}
+use Rattle.std.proofs.Common.{sym, ap, ap₂, ◌∙◌, subst, arith, not-suc-le-zero, le_of_suc-le-suc}
 use Prim.Native.Nat.{Ordering, compare}
 use Rattle.std.proofs.lemmas.List.{get_or-map}
 use Rattle.points.specs.Points.{Says, compose, same}
@@ -141,12 +141,17 @@ by_marks u v q x y z w a zero (suc t) = y
 by_marks u v q x y z w a (suc s) zero = z
 by_marks u v q x y z w a (suc s) (suc t) = w
 
+-- the spell with these two ends
+abbrev from_to : ℕ → ℕ → Spell
+from_to x y = record { start = x; end = y }
+
 pub spelled : Frame spells timeline
 spelled = record {
   number = number;
-  make = λ f. record { start = f 0 0; end = f 0 1 };
+  make = λ f. from_to (f 0 0) (f 0 1);
   made = made;
   same_codes = refl;
+  determined = λ u v e. ap₂ from_to (e 0 0 (omega arith) (omega arith)) (e 0 1 (omega arith) (omega arith));
   ascends = λ v h a s t ha hs ht. ascends v h a s t hs ht;
   lawful = λ v h. says Prim.Native.Nat.Ordering.lt v.start v.end (h 0 0 1 (omega arith) (omega arith) (omega arith));
   seen = λ u v hu hv c h.
@@ -182,7 +187,7 @@ spelled = record {
   few = omega arith;
 }
   where
-    made : (f : ℕ → ℕ → ℕ) (a s : ℕ) → a < 1 → s < 2 → number (record { start = f 0 0; end = f 0 1 }) a s ≡ f a s
+    made : (f : ℕ → ℕ → ℕ) (a s : ℕ) → a < 1 → s < 2 → number (from_to (f 0 0) (f 0 1)) a s ≡ f a s
     made f zero zero ha hs = refl
     made f zero (suc zero) ha hs = refl
     made f zero (suc (suc s)) ha hs = absurd (not-suc-le-zero (le_of_suc-le-suc (le_of_suc-le-suc hs)))

@@ -6,7 +6,7 @@ use Rattle.kinds.specs.Layouts.{Layout, rank_on}
 use Rattle.spells.specs.declared.spell.Spell.{Spell}
 use Rattle.spells.specs.Relations.{Lawful, Holds, relations, coded, code, related, Ends, ends}
 
--- Allen's interval algebra: spells of at least one unit
+-- The kind of spells: the thirteen base relations of Allen's interval algebra. A spell is lawful that starts before it ends.
 abbrev pub spells : Meaning Spell
 spells = record {
   codes = 13;
