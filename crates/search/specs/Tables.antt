@@ -1,6 +1,6 @@
 -- What the loop of a search keeps, so that a step looks only at what changed: costs of pairs, bounds of the remaining pairs, costs of
 -- prefixes, how long the prefixes are that are known not to be refuted, and from which place on the codes are 0.
-use Rattle.std.specs.Prelude.{◌≡◌, ℕ, ◌+◌, ◌-◌, ◌*◌, ◌<◌, ◌≤◌, Bool, false, List, length, slice_index, slice_index_or}
+use Rattle.std.specs.Prelude.{◌≡◌, ℕ, ◌+◌, ◌*◌, ◌<◌, ◌≤◌, Bool, false, List, length, slice_index_or}
 use Rattle.points.specs.Scenarios.{pairs, entry}
 use Rattle.tallies.specs.Joins.{Joining}
 use Rattle.tallies.specs.declared.claim.Claim.{Claim}
