@@ -121,9 +121,9 @@ drafted h c = record { head = h; rows = c.rows }
 -- tally, which has `had` before; and so on, until it is refused, or there is no head.
 abbrev pub read_all : (Head → Spelling) → (Head → Contents) → ℕ → View → Reading
 read_all spell had zero v = ended None
-read_all spell had (suc n) v = then_head
-    (λ h. then_load (drafted h (load_contents (spell h) (head_after v) (had h))) (read_all spell had n (load_after (spell h) (head_after v))) (load_fault (spell h) (head_after v)))
-    (head_answer v)
+read_all spell had (suc n) v =
+    let w = head_after v in
+    then_head (λ h. then_load (drafted h (load_contents (spell h) w (had h))) (read_all spell had n (load_after (spell h) w)) (load_fault (spell h) w)) (head_answer v)
 
 -- the sheets before the one that a fault is in; all, where there is no fault
 abbrev pub sheets_before : Option SheetFault → List Sheet → List Sheet
