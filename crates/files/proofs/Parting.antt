@@ -83,7 +83,7 @@ onto_first_lacks : (c b : ℕ) (ps : List (List ℕ)) → (b ≡ c → ⊥) → 
 onto_first_lacks c b [] n h = ((n, tt), tt)
 onto_first_lacks c b (p ∷ ps) n h = ((n, h.0), h.1)
 
-pub parts_lack : (c : ℕ) (bs : List ℕ) → AllByRecursion (Lacks c) (parted c bs)
+parts_lack : (c : ℕ) (bs : List ℕ) → AllByRecursion (Lacks c) (parted c bs)
 parts_lack c [] = (tt, tt)
 parts_lack c (b ∷ bs) =
     cond_both (eqb b c) ([] ∷ parted c bs) (onto_first b (parted c bs)) (AllByRecursion (Lacks c))
