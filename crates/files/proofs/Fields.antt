@@ -62,6 +62,12 @@ kind_some l h = grind (arith, nat_tests)
 tally_some : (l : ℕ) → is_tally l ≡ true → 32 < l
 tally_some l h = grind (arith, nat_tests)
 
+kind_alone : (f : List ℕ) → is_kind (letter f) ≡ true → f ≡ letter f ∷ []
+kind_alone f h = one_letter f (λ z. absurd (omega (arith, z, kind_some (letter f) h)))
+
+tally_alone : (f : List ℕ) → is_tally (letter f) ≡ true → f ≡ letter f ∷ []
+tally_alone f h = one_letter f (λ z. absurd (omega (arith, z, tally_some (letter f) h)))
+
 -- three fields
 three : (fs : List (List ℕ)) → (length fs == 3) ≡ true → fs ≡ get_or fs 0 [] ∷ get_or fs 1 [] ∷ get_or fs 2 [] ∷ []
 three [] e = cc
@@ -82,15 +88,15 @@ alike_lists k k' n n' l l' ek en el = cc
 module _ (line : List ℕ) where
   pub head_said : (h : Head) → head_in line ≡ Ok h → SaysHead line h
   head_said h e =
-      let a = passed (line_fits line) _ _ (head_of line) h e in
-      let b = passed (length (fields line) == 3) _ _ (head_of line) h a.1 in
-      let c = passed (is_kind (letter (field 1 line))) _ _ (head_of line) h b.1 in
-      let d = passed (is_number (field 2 line)) _ _ (head_of line) h c.1 in
-      let t = passed (is_tally (letter (field 3 line))) _ _ (head_of line) h d.1 in
-      let s = passed (is_in_range 1 12 (value_of (field 2 line))) _ None (head_of line) h t.1 in
-      let k : field 1 line ≡ letter (field 1 line) ∷ [] = one_letter (field 1 line) (λ z. absurd (omega (arith, z, kind_some (letter (field 1 line)) c.0))) in
+      let a = passed _ _ _ (head_of line) h e in
+      let b = passed _ _ _ (head_of line) h a.1 in
+      let c = passed _ _ _ (head_of line) h b.1 in
+      let d = passed _ _ _ (head_of line) h c.1 in
+      let t = passed _ _ _ (head_of line) h d.1 in
+      let s = passed _ _ None (head_of line) h t.1 in
+      let k : field 1 line ≡ letter (field 1 line) ∷ [] = kind_alone (field 1 line) c.0 in
       let n : field 2 line ≡ decimal (value_of (field 2 line)) = (number_written (field 2 line) d.0).1 in
-      let l : field 3 line ≡ letter (field 3 line) ∷ [] = one_letter (field 3 line) (λ z. absurd (omega (arith, z, tally_some (letter (field 3 line)) t.0))) in
+      let l : field 3 line ≡ letter (field 3 line) ∷ [] = tally_alone (field 3 line) t.0 in
       let said : SaysHead line (head_of line) = record {
         fields = sym (parts_joined 32 line) ∙ ap (join_with_byte 32) (three (fields line) b.0 ∙ alike_lists _ _ _ _ _ _ k n l);
         short = leb-true _ _ a.0;
@@ -227,14 +233,14 @@ module _ (code : List ℕ → Option ℕ) (clean : (w : List ℕ) → is_some (c
   entry_said : (e : Entry) → entry_in code line ≡ Ok e → SaysEntry code line e
   entry_said e o =
       let x = entry_of code line in
-      let a = passed (line_fits line) _ _ x e o in
-      let k = passed (length (fields line) == 5 || length (fields line) == 6) _ _ x e a.1 in
-      let n1 = passed (is_number (field 1 line)) _ _ x e k.1 in
-      let n2 = passed (is_number (field 2 line)) _ _ x e n1.1 in
-      let w = passed (are_words code (field 3 line)) _ _ x e n2.1 in
-      let n4 = passed (is_number (field 4 line)) _ _ x e w.1 in
-      let n5 = passed (is_number (field 5 line)) _ _ x e n4.1 in
-      let m = passed (cond (has_field 6 line) (is_mark (field 6 line)) true) _ None x e n5.1 in
+      let a = passed _ _ _ x e o in
+      let k = passed _ _ _ x e a.1 in
+      let n1 = passed _ _ _ x e k.1 in
+      let n2 = passed _ _ _ x e n1.1 in
+      let w = passed _ _ _ x e n2.1 in
+      let n4 = passed _ _ _ x e w.1 in
+      let n5 = passed _ _ _ x e n4.1 in
+      let m = passed _ _ None x e n5.1 in
       let w1 = number_written (field 1 line) n1.0 in
       let w2 = number_written (field 2 line) n2.0 in
       let w4 = number_written (field 4 line) n4.0 in
