@@ -69,6 +69,9 @@ pub record SaysHead (line : List ℕ) (h : Head) : Type 0 where
       )
   -- it has at most 80 bytes
   pub short : length line ≤ 80
+  -- M, S or D
   pub kind : is_kind h.letter ≡ true
+  -- 1 to 12
   pub size : is_in_range 1 12 h.size ≡ true
+  -- w or r
   pub tally : is_tally h.tally ≡ true

@@ -75,8 +75,9 @@ pub record SaysEntry (code : List ℕ → Option ℕ) (line : List ℕ) (e : Ent
       -- 6: '!', if it is sworn
       ∷ cond e.sworn (codes "!" ∷ []) []
       )
-  -- it has at most 80 bytes, and each number at most six digits
+  -- it has at most 80 bytes
   pub short : length line ≤ 80
+  -- each number has at most six digits
   pub first : e.first < 10 ^ 6
   pub second : e.second < 10 ^ 6
   pub weight : e.weight < 10 ^ 6

@@ -8,8 +8,8 @@ ghost use Rattle.reports.specs.Spellings.{spelling_of};
 
 use crate::printed::{PrintedKind, PrintedTally};
 
-/// Each head of a file is read by the words and letters of its own kind and tally; so the programs meet just the first fault of a file,
-/// and load just the sheets before it.
+/// Each head of a file is read by the words and letters of its own kind and tally. So a reader that is asked for each head in turn, and
+/// loads its sheet by them, meets just the first fault of its file, and loads just the sheets before it.
 pub fn heads_read()
     ensures own { Own spelling_of }
     ensures reads { (file : List ℕ) (had : Said → Contents) → ReadsWith spelling_of had file (start_of file) }
