@@ -16,7 +16,7 @@ use Rattle.files.specs.Faults.{given}
 use Rattle.files.specs.Numbers.{value_of, is_number, number_in}
 
 -- digits, one by one
-digit_parts : (b : ℕ) (bs : List ℕ) → list_all is_ascii_digit (b ∷ bs) ≡ true → IsInRange 48 57 b × (list_all is_ascii_digit bs ≡ true)
+pub digit_parts : (b : ℕ) (bs : List ℕ) → list_all is_ascii_digit (b ∷ bs) ≡ true → IsInRange 48 57 b × (list_all is_ascii_digit bs ≡ true)
 digit_parts b bs e = grind (arith, nat_tests)
 
 digit_more : (b : ℕ) (bs : List ℕ) → IsInRange 48 57 b → list_all is_ascii_digit bs ≡ true → list_all is_ascii_digit (b ∷ bs) ≡ true
@@ -25,7 +25,7 @@ digit_more b bs h e = grind (arith, nat_tests)
 abbrev folded : ℕ → List ℕ → ℕ
 folded n bs = fold (λ m b. m * 10 + (b - 48)) n bs
 
-numerals : IsNumeralModel (λ bs. list_all is_ascii_digit bs ≡ true) value_of
+pub numerals : IsNumeralModel (λ bs. list_all is_ascii_digit bs ≡ true) value_of
 numerals = numerals_by_fold (λ bs. list_all is_ascii_digit bs ≡ true) (record { empty = refl; parts = digit_parts; more = digit_more }) folded
     (record { empty = λ n. refl; more = λ n c cs h. refl })
 
@@ -40,13 +40,13 @@ number_by : (bs : List ℕ) → 0 < length bs → length bs ≤ 6 → list_all i
 unfolding is_number
 number_by bs a b d z = grind (arith, nat_tests)
 
-number_written : (bs : List ℕ) → is_number bs ≡ true → (value_of bs < 10 ^ 6) × (bs ≡ decimal (value_of bs))
+pub number_written : (bs : List ℕ) → is_number bs ≡ true → (value_of bs < 10 ^ 6) × (bs ≡ decimal (value_of bs))
 number_written bs e =
     let p = number_parts bs e in
     let m = below_million bs p.2 p.1 in
     (m, sym (decimal-digits_value numerals bs p.2 p.0 p.3 (omega (arith, m))))
 
-written_number : (n : ℕ) → n < 10 ^ 6 → is_number (decimal n) ≡ true
+pub written_number : (n : ℕ) → n < 10 ^ 6 → is_number (decimal n) ≡ true
 written_number n h =
     number_by (decimal n) (decimal_nonempty n (omega arith)) (length-decimal-le 6 n (omega arith) h (omega arith)) (digits_decimal numerals n (omega arith))
     (λ z. ⊎_elim (λ e. ap (λ k. length (decimal k)) e ∙ ap length (decimal_digit 0 (omega arith))) (λ e. absurd (omega (arith, first_decimal n (omega arith) (omega arith)))) (cases_eq n 0))

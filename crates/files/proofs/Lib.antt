@@ -7,3 +7,4 @@ pub mod Loading
 pub mod Turns
 pub mod Readings
 pub mod Lined
+pub mod Fields

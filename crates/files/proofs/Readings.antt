@@ -17,7 +17,7 @@ use Rattle.files.specs.Files.{Between, rest_fault, rest_sheets, after_load, afte
 use Rattle.files.proofs.Parting.{lines_le}
 use Rattle.files.proofs.Seeking.{at_end, at_head, at_stray}
 use Rattle.files.proofs.Standing.{some_ahead}
-use Rattle.files.proofs.Turns.{between, same, Answer, fault_is_none, none_begun, in_turn, between_again, sheet_next, sheet_end, from_start}
+use Rattle.files.proofs.Turns.{between, same, Answer, fault_is_none, none_begun, own_answer, in_turn, between_again, sheet_next, sheet_end, from_start}
 
 -- what was read from v on
 record Told (spell : Head → Spelling) (v : View) (r : Reading) : Type 0 where
@@ -105,6 +105,9 @@ module _ (spell : Head → Spelling) (had : Head → Contents) (own : Own spell)
     waits : w.waiting ≡ Some h
     waits = ap (λ x. x.waiting) moved
 
+    owns : fits_draft (spell h) h ≡ true
+    owns = own_answer spell own v h b e
+
     sheet : w.place.sheet ≡ v.place.sheet + 1
     sheet = ap (λ x. x.place.sheet) moved
 
@@ -117,7 +120,7 @@ module _ (spell : Head → Spelling) (had : Head → Contents) (own : Own spell)
         arith,
         sheet,
         ap (λ x. x.place.sheet) (fault_same f k z),
-        body_sheet (spell h) h.size w.place [] (body w.ahead) f (sym (own_fault (spell h) w h fits waits (own h)) ∙ g),
+        body_sheet (spell h) h.size w.place [] (body w.ahead) f (sym (own_fault (spell h) w h fits waits owns) ∙ g),
       );
     }
 
@@ -140,8 +143,8 @@ module _ (spell : Head → Spelling) (had : Head → Contents) (own : Own spell)
 
       same_sheet : drafted h (load_contents (spell h) w (had h)) ≡ record { head = h; rows = rows_in (spell h) (body w.ahead) }
       same_sheet = ap (λ r. record { head = h; rows = r })
-          (own_rows (spell h) w h fits waits (own h) (had h)
-          ∙ ap (λ o. loaded_rows o (rows_in (spell h) (body w.ahead))) (sym (own_fault (spell h) w h fits waits (own h)) ∙ g))
+          (own_rows (spell h) w h fits waits owns (had h)
+          ∙ ap (λ o. loaded_rows o (rows_in (spell h) (body w.ahead))) (sym (own_fault (spell h) w h fits waits owns) ∙ g))
 
       next_sheets : rest_sheets spell v ≡ drafted h (load_contents (spell h) w (had h)) ∷ rest_sheets spell u
       next_sheets = sheet_next spell v h b takes ∙ ap (λ t. t ∷ rest_sheets spell u) (sym same_sheet)

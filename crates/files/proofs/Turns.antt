@@ -13,7 +13,8 @@ use Rattle.files.specs.Loads.{body, body_fault, rows_in}
 use Rattle.files.specs.Sheets.{before, onward, head_place, located, stray_fault}
 use Rattle.files.specs.Views.{View, too_long, start_of, fits_draft, head_answer, head_move, head_after, load_fault, load_move, load_after}
 use Rattle.files.specs.Words.{Spelling}
-use Rattle.files.specs.Files.{Sheet, begun, extended, lines_fault, sheets_in, Between, rest_fault, rest_sheets, after_load, after_head, Takes}
+use Rattle.files.specs.Files.{Sheet, begun, extended, lines_fault, sheets_in, Between, rest_fault, rest_sheets, after_load, after_head, Takes, Own}
+use Rattle.files.proofs.Fields.{head_said}
 use Rattle.files.proofs.Seeking.{before_head, before_line, at_end, at_head, at_stray}
 
 -- a reader between two sheets
@@ -131,7 +132,29 @@ own_load s p ls h own = rw own refl
 pub none_begun : (p : Place) (l : List ℕ) (ls : List (List ℕ)) → is_head l ≡ false → (before (l ∷ ls) == 0 || p.sheet == 0) ≡ true → p.sheet ≡ 0
 none_begun p l ls n b = let c = rw n at b in grind (arith, nat_tests)
 
-module _ (spell : Head → Spelling) (own : (h : Head) → fits_draft (spell h) h ≡ true) where
+module _ (spell : Head → Spelling) (own : Own spell) where
+  -- a head that was read has the letters of a kind and a tally
+  own_read : (l : List ℕ) (h : Head) → head_in l ≡ Ok h → fits_draft (spell h) h ≡ true
+  own_read l h e = let s = head_said l h e in own h s.kind s.tally
+
+  own_line : (p : Place) (l : List ℕ) (ls : List (List ℕ)) (h : Head) → is_head l ≡ true → head_answer (between p (l ∷ ls)) ≡ Ok (Some h) → (r : Result Head LineFault) → head_in l ≡ r
+      → fits_draft (spell h) h ≡ true
+  own_line p l ls h y a (Err f) e =
+      fault_is_none _ (Some h) _ _ (sym (at_head p l ls y ∙ ap (located (head_place p 0)) e) ∙ a)
+  own_line p l ls h y a (Ok g) e =
+      own_read l h (e ∙ ap (λ x. Ok x) (same_head g h (sym (at_head p l ls y ∙ ap (located (head_place p 0)) e) ∙ a)))
+
+  own_lines : (p : Place) (ls : List (List ℕ)) (h : Head) → (before ls == 0 || p.sheet == 0) ≡ true → head_answer (between p ls) ≡ Ok (Some h) → fits_draft (spell h) h ≡ true
+  own_lines p [] h b a = head_is_none h _ _ (sym a ∙ at_end p)
+  own_lines p (l ∷ ls) h b a =
+      ⊎_elim
+      (λ y. own_line p l ls h y a (head_in l) refl)
+      (λ n. fault_is_none _ (Some h) _ _ (sym (at_stray p l ls n (none_begun p l ls n b)) ∙ a))
+      (cases_Bool (is_head l))
+
+  pub own_answer : (v : View) (h : Head) → Between v → head_answer v ≡ Ok (Some h) → fits_draft (spell h) h ≡ true
+  own_answer v h b a = own_lines v.place v.ahead h b.next (subst (λ w. head_answer w ≡ Ok (Some h)) (same v b) a)
+
   by_head : (p : Place) (l : List ℕ) (ls : List (List ℕ)) → is_head l ≡ true → (r : Result Head LineFault) → head_in l ≡ r
       → lines_fault spell p None (l ∷ ls) ≡ after_head spell (head_after (between p (l ∷ ls))) (head_answer (between p (l ∷ ls)))
   by_head p l ls y (Err f) e =
@@ -141,7 +164,7 @@ module _ (spell : Head → Spelling) (own : (h : Head) → fits_draft (spell h) 
       at_fit spell p l ls None h y e
       ∙ splits spell (head_place p 0) (begun h) ls
       ∙ by_load spell (head_place p 0) ls h (body_fault (spell h) h.size (head_place p 0) [] (body ls))
-      ∙ ap (λ o. after_load spell (load_move (past p ls h) o) o) (sym (own_load (spell h) p ls h (own h)))
+      ∙ ap (λ o. after_load spell (load_move (past p ls h) o) o) (sym (own_load (spell h) p ls h (own_read l h e)))
       ∙ ap (λ v. after_head spell v (Ok (Some h))) (sym (fit_after p l ls h y e))
       ∙ ap (after_head spell (head_after (between p (l ∷ ls)))) (sym (fit_answer p l ls h y e))
 

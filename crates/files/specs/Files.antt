@@ -8,7 +8,7 @@ use Rattle.files.specs.declared.head.Head.{Head}
 use Rattle.files.specs.Drafts.{line_fault, row_in}
 use Rattle.files.specs.Faults.{SheetFault}
 use Rattle.files.specs.Loads.{body, rows_in}
-use Rattle.files.specs.Heads.{is_head, head_in, head_of}
+use Rattle.files.specs.Heads.{is_head, is_kind, is_tally, head_in, head_of}
 use Rattle.files.specs.Parts.{lines}
 use Rattle.files.specs.Sheets.{before, onward, head_place, stray_fault, nowhere}
 use Rattle.files.specs.Views.{View, Contents, too_long, start_of, fits_draft, head_answer, head_after, load_fault, load_after, load_contents}
@@ -121,18 +121,18 @@ drafted h c = record { head = h; rows = c.rows }
 -- tally, which has `had` before; and so on, until it is refused, or there is no head.
 abbrev pub read_all : (Head → Spelling) → (Head → Contents) → ℕ → View → Reading
 read_all spell had zero v = ended None
-read_all spell had (suc n) v = then_head
-    (λ h. then_load (drafted h (load_contents (spell h) (head_after v) (had h))) (read_all spell had n (load_after (spell h) (head_after v))) (load_fault (spell h) (head_after v)))
-    (head_answer v)
+read_all spell had (suc n) v =
+    let w = head_after v in
+    then_head (λ h. then_load (drafted h (load_contents (spell h) w (had h))) (read_all spell had n (load_after (spell h) w)) (load_fault (spell h) w)) (head_answer v)
 
 -- the sheets before the one that a fault is in; all, where there is no fault
 abbrev pub sheets_before : Option SheetFault → List Sheet → List Sheet
 sheets_before (Some f) ts = take (f.place.sheet - 1) ts
 sheets_before None ts = ts
 
--- each head is written as its own letters say
+-- each head is written as its own letters say, where they are those of a kind and a tally
 abbrev pub Own : (Head → Spelling) → Type 0
-Own spell = (h : Head) → fits_draft (spell h) h ≡ true
+Own spell = (h : Head) → is_kind h.letter ≡ true → is_tally h.tally ≡ true → fits_draft (spell h) h ≡ true
 
 -- A reader at v that reads the whole file meets just the first fault of the file, if it has one, and loads just the sheets before it; of a
 -- well-formed file it loads just the sheets. No more heads come than the file has bytes.

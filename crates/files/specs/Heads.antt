@@ -1,6 +1,8 @@
 -- A head: the kind's letter, the number of items, the tally's letter.
-use Rattle.std.specs.Prelude.{ℕ, ◌-◌, Bool, cond, ◌||◌, List, [], ◌∷◌, length, Option, Result, ◌==◌, nat_le, slice_index, slice_index_or}
+use Rattle.std.specs.Prelude.{◌≡◌, ℕ, ◌-◌, ◌≤◌, Bool, true, cond, ◌||◌, List, [], ◌∷◌, length, Option, Result, ◌==◌, nat_le, slice_index, slice_index_or}
+use Rattle.std.specs.Fmt.{decimal}
 use Rattle.std.specs.Int.{is_in_range}
+use Rattle.std.specs.List.{join_with_byte}
 use Rattle.statements.specs.declared.fault.Fault.TheVariants.{Size}
 use Rattle.files.specs.declared.fault.FieldFault.TheVariants.{NotNumber, Unknown}
 use Rattle.files.specs.declared.fault.LineFault.{LineFault}
@@ -52,3 +54,24 @@ head_of line = record { letter = letter (field 1 line); size = value_of (field 2
 -- the head that a line is, or its first fault
 abbrev pub head_in : List ℕ → Result Head LineFault
 head_in line = answered (head_fault line) (head_of line)
+
+-- That a line says a head, by its bytes, field after field.
+pub record SaysHead (line : List ℕ) (h : Head) : Type 0 where
+  -- the line is these fields, with single spaces between them
+  pub fields : line ≡ join_with_byte 32 (
+      -- 1: the kind, by its letter
+      (h.letter ∷ [])
+      -- 2: the number of items
+      ∷ decimal h.size
+      -- 3: the tally, by its letter
+      ∷ (h.tally ∷ [])
+      ∷ []
+      )
+  -- it has at most 80 bytes
+  pub short : length line ≤ 80
+  -- M, S or D
+  pub kind : is_kind h.letter ≡ true
+  -- 1 to 12
+  pub size : is_in_range 1 12 h.size ≡ true
+  -- w or r
+  pub tally : is_tally h.tally ≡ true

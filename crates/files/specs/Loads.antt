@@ -1,15 +1,17 @@
 -- The sheet that the lines after a head stand for.
 use Rattle.std.specs.Prelude.{◌≡◌, ℕ, ◌+◌, ◌-◌, List, [], ◌∷◌, ◌++◌, map, take, drop, Some, None, Ok, Err, Option, Result}
+use Rattle.std.specs.List.{before_first}
 use Rattle.rules.specs.declared.row.Row.{Row}
 use Rattle.files.specs.declared.fault.Place.{Place}
 use Rattle.files.specs.Drafts.{line_fault, row_in}
 use Rattle.files.specs.Faults.{SheetFault}
+use Rattle.files.specs.Heads.{is_head}
 use Rattle.files.specs.Sheets.{before, onward}
 use Rattle.files.specs.Words.{Spelling}
 
 -- the statements of a sheet: the lines up to the next head, however unfit that is
 abbrev pub body : List (List ℕ) → List (List ℕ)
-body ls = take (before ls) ls
+body ls = before_first is_head ls
 
 -- the rows that they stand for
 abbrev pub rows_in : Spelling → List (List ℕ) → List Row

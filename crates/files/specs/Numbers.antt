@@ -6,7 +6,7 @@ use Rattle.files.specs.declared.fault.FieldFault.{FieldFault}
 use Rattle.files.specs.declared.fault.FieldFault.TheVariants.{NotNumber}
 use Rattle.files.specs.Faults.{given}
 
--- the number that digits write
+-- the number that digits write (of digits the same as `digits_value 10` of the library, with which the proof of `digits` would be longer)
 abbrev pub value_of : List ℕ → ℕ
 value_of bs = fold (λ n b. n * 10 + (b - 48)) 0 bs
 

@@ -9,7 +9,8 @@ use Rattle.files.specs.declared.parts.Lines.{Lines}
 abbrev pub parted : ℕ → List ℕ → List (List ℕ)
 parted c text = slice_split (λ b. b == c) text
 
--- the lines of a file, each up to a line feed, which the last may lack; after a final line feed there is no further line
+-- the lines of a file, each up to a line feed, which the last may lack; after a final line feed there is no further line; a carriage
+-- return is a byte of its line, which the `lines` of the library takes away before a line feed
 abbrev pub lines : List ℕ → List (List ℕ)
 lines [] = []
 lines (b ∷ bs) = cond (b == 10) ([] ∷ lines bs) (onto_first b (lines bs))

@@ -1,6 +1,8 @@
 -- A statement's line: first item, second item, words, weight, person, and '!' if it is sworn.
-use Rattle.std.specs.Prelude.{ℕ, Bool, true, false, cond, ◌||◌, List, [], ◌∷◌, length, Some, None, Ok, codes, Option, Result, ◌==◌, nat_le}
+use Rattle.std.specs.Prelude.{◌≡◌, ℕ, ◌^◌, ◌<◌, ◌≤◌, Bool, true, false, cond, ◌||◌, List, [], ◌∷◌, length, Some, None, Ok, codes, Option, Result, ◌==◌, nat_le}
 use Rattle.std.specs.Borrow.{Bor}
+use Rattle.std.specs.Fmt.{decimal}
+use Rattle.std.specs.List.{join_with_byte}
 use Rattle.kinds.specs.Words.{is}
 use Rattle.statements.specs.declared.entry.Entry.{Entry}
 use Rattle.files.specs.declared.fault.FieldFault.{FieldFault}
@@ -10,7 +12,7 @@ use Rattle.files.specs.declared.fault.LineFault.TheVariants.{TooLong, FieldCount
 use Rattle.files.specs.Faults.{first, unless, given, answered}
 use Rattle.files.specs.Parts.{fields}
 use Rattle.files.specs.Numbers.{is_number, value_of}
-use Rattle.files.specs.Words.{are_words, set_of}
+use Rattle.files.specs.Words.{are_words, set_of, set_in}
 use Rattle.files.specs.Heads.{line_fits, field}
 
 -- a field is '!'
@@ -53,3 +55,32 @@ entry_of code line = record {
 -- the entry that a line is, or its first fault
 abbrev pub entry_in : (List ℕ → Option ℕ) → List ℕ → Result Entry LineFault
 entry_in code line = answered (statement_fault code line) (entry_of code line)
+
+-- That a line says an entry, by its bytes, field after field.
+pub record SaysEntry (code : List ℕ → Option ℕ) (line : List ℕ) (e : Entry) : Type 0 where
+  -- the third field
+  pub words : List ℕ
+  -- the line is these fields, with single spaces between them
+  pub fields : line ≡ join_with_byte 32 (
+      -- 1: the first item
+      decimal e.first
+      -- 2: the second item
+      ∷ decimal e.second
+      -- 3: the words
+      ∷ words
+      -- 4: the weight
+      ∷ decimal e.weight
+      -- 5: the person
+      ∷ decimal e.person
+      -- 6: '!', if it is sworn
+      ∷ cond e.sworn (codes "!" ∷ []) []
+      )
+  -- it has at most 80 bytes
+  pub short : length line ≤ 80
+  -- each number has at most six digits
+  pub first : e.first < 10 ^ 6
+  pub second : e.second < 10 ^ 6
+  pub weight : e.weight < 10 ^ 6
+  pub person : e.person < 10 ^ 6
+  -- the words name the set
+  pub set : set_in code words ≡ Ok e.set

@@ -54,6 +54,7 @@ head_move v (Ok (Some h)) = record { too_long = v.too_long; place = head_place v
 head_move v (Ok None) = record { too_long = v.too_long; place = record { sheet = v.place.sheet; line = v.place.line + length v.ahead }; ahead = []; waiting = None }
 head_move v (Err f) = v
 
+-- where a reader stands once it has been asked for a head
 abbrev pub head_after : View → View
 head_after v = head_move v (head_answer v)
 
@@ -67,6 +68,7 @@ abbrev pub waiting_fault : Spelling → View → Option Head → Option SheetFau
 waiting_fault s v None = Some (nowhere NoHead)
 waiting_fault s v (Some h) = cond (fits_draft s h) (body_fault s h.size v.place [] (body v.ahead)) (Some (nowhere (Field 0 Unknown)))
 
+-- before all of these, that the file is too long
 abbrev pub load_fault : Spelling → View → Option SheetFault
 load_fault s v = cond v.too_long (Some (nowhere TooLong)) (waiting_fault s v v.waiting)
 
@@ -75,6 +77,7 @@ abbrev pub load_move : View → Option SheetFault → View
 load_move v (Some f) = v
 load_move v None = record { too_long = v.too_long; place = record { sheet = v.place.sheet; line = v.place.line + before v.ahead }; ahead = drop (before v.ahead) v.ahead; waiting = None }
 
+-- where a reader stands once it has been asked to load
 abbrev pub load_after : Spelling → View → View
 load_after s v = load_move v (load_fault s v)
 
@@ -100,5 +103,6 @@ waiting_contents s v (Some h) old = cond (fits_draft s h)
     (record { items = h.size; rows = loaded_rows (body_fault s h.size v.place [] (body v.ahead)) (rows_in s (body v.ahead)) })
     old
 
+-- what the draft has once a reader has been asked to load; where the file is too long, what it had
 abbrev pub load_contents : Spelling → View → Contents → Contents
 load_contents s v old = cond v.too_long old (waiting_contents s v v.waiting old)

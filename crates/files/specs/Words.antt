@@ -43,9 +43,11 @@ all_words code ws = list_all (λ w. is_some (code w)) ws
 abbrev pub with_words : (List ℕ → Option ℕ) → ℕ → List (List ℕ) → ℕ
 with_words code set ws = fold (λ s w. elim (code w) [ Some c ↦ bit_or s (2 ^ c) | None ↦ s ]) set ws
 
+-- each word of a field is a word of the kind
 unfoldable pub are_words : (List ℕ → Option ℕ) → List ℕ → Bool
 are_words code field = all_words code (words field)
 
+-- the codes of the words of a field, as bits
 unfoldable pub set_of : (List ℕ → Option ℕ) → List ℕ → ℕ
 set_of code field = with_words code 0 (words field)
 

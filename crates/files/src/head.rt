@@ -1,11 +1,11 @@
 // The head of a sheet.
-ghost use Rattle.std.specs.Prelude.{◌≡◌};
+ghost use Rattle.std.specs.Prelude.{◌≡◌, ◌↔◌, Ok};
 ghost use Rattle.std.specs.Int.{is_in_range};
 ghost use Rattle.statements.specs.declared.fault.Fault.TheVariants.{Size};
 ghost use Rattle.files.specs.declared.fault.FieldFault.TheVariants.{Unknown as Unfit};
 ghost use Rattle.files.specs.Faults.{given};
-ghost use Rattle.files.specs.Heads.{head_in, letter, is_kind, is_tally};
-ghost use Rattle.files.specs.Letters.{kind_letter, kind_of, tally_letter, tally_of};
+ghost use Rattle.files.specs.Heads.{head_in, letter, is_kind, is_tally, SaysHead};
+ghost use Rattle.files.specs.Letters.{Said, kind_letter, kind_of, tally_letter, tally_of};
 
 use crate::fault::{At, FieldFault, LineFault, placed};
 use crate::number::number;
@@ -121,7 +121,8 @@ fn checked_size(size: u32) -> Result<u32, Fault>
 
 /// Reads a head, or tells its first fault.
 pub fn parse_head(line: &[u8]) -> Result<Head, LineFault>
-    ensures { result ≡ head_in line.now }
+    ensures head { result ≡ head_in line.now }
+    ensures says { (h : Said) → (result ≡ Ok h) ↔ SaysHead line.now h }
 {
     if line.len() > LONGEST {
         return Err(LineFault::TooLong);

@@ -1,6 +1,7 @@
 // A statement's line.
-ghost use Rattle.std.specs.Prelude.{◌≡◌};
-ghost use Rattle.files.specs.Statements.{entry_in, mark_in};
+ghost use Rattle.std.specs.Prelude.{◌≡◌, ◌↔◌, Ok};
+ghost use Rattle.statements.specs.declared.entry.Entry.{Entry as EntryOf};
+ghost use Rattle.files.specs.Statements.{entry_in, mark_in, SaysEntry};
 ghost use Rattle.files.specs.Words.{code_of};
 
 use crate::fault::{At, FieldFault, LineFault, placed};
@@ -25,7 +26,8 @@ fn mark(field: Option<&[u8]>) -> Result<bool, FieldFault>
 
 /// Reads a statement of a kind, before any draft has checked it, or tells its first fault.
 pub fn parse_entry<K: Kind + Notation>(line: &[u8]) -> Result<Entry, LineFault>
-    ensures { result ≡ entry_in (code_of K.Kind.meaning.codes K.Notation.words) line.now }
+    ensures entry { result ≡ entry_in (code_of K.Kind.meaning.codes K.Notation.words) line.now }
+    ensures says { (e : EntryOf) → (result ≡ Ok e) ↔ SaysEntry (code_of K.Kind.meaning.codes K.Notation.words) line.now e }
 {
     if line.len() > LONGEST {
         return Err(LineFault::TooLong);

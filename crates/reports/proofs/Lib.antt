@@ -3,3 +3,4 @@ pub mod Lined
 pub mod Seen
 pub mod Settled
 pub mod Sights
+pub mod Spelled

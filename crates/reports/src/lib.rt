@@ -6,4 +6,5 @@ pub mod fault;
 pub mod found;
 pub mod printed;
 pub mod report;
+pub mod spelling;
 mod text;

@@ -6,6 +6,8 @@ ghost use Rattle.files.specs.declared.head.HeadKind.TheVariants.{Moments as OfMo
 ghost use Rattle.files.specs.declared.head.HeadTally.{HeadTally};
 ghost use Rattle.files.specs.declared.head.HeadTally.TheVariants.{ByWeight as OfWeight, SwornFirst as OfSworn};
 ghost use Rattle.files.specs.Letters.{kind_letter, tally_letter};
+ghost use Rattle.files.specs.Words.{spelled};
+ghost use Rattle.reports.specs.Spellings.{spelled_as};
 
 use dwellings::Dwellings;
 use files::letter::TallyLetter;
@@ -31,6 +33,9 @@ pub trait PrintedKind: Kind<Value: Display> + Notation {
 
     /// By the kind's own letter.
     ghost lettered: { kind_letter head ≡ Self.Notation.initial };
+
+    /// Sheets below such heads are read by the kind's own words.
+    ghost read_by: { (tally : ℕ) → spelled_as head tally ≡ spelled Self.Kind.meaning Self.Notation.words Self.Notation.initial tally };
 }
 
 /// A tally whose costs can be printed.
@@ -56,6 +61,8 @@ impl PrintedKind for Moments {
     ghost head = { OfMoments };
 
     ghost lettered = { refl };
+
+    ghost read_by = { λ tally. refl };
 }
 
 impl PrintedKind for Spells {
@@ -66,6 +73,8 @@ impl PrintedKind for Spells {
     ghost head = { OfSpells };
 
     ghost lettered = { refl };
+
+    ghost read_by = { λ tally. refl };
 }
 
 impl PrintedKind for Dwellings {
@@ -76,6 +85,8 @@ impl PrintedKind for Dwellings {
     ghost head = { OfDwellings };
 
     ghost lettered = { refl };
+
+    ghost read_by = { λ tally. refl };
 }
 
 impl PrintedTally for ByWeight {

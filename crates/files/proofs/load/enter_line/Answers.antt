@@ -10,4 +10,4 @@ returns-in_err-enter_at-clause-answer g c =
     let p = err_from_is_err_and c.from_residual-in_err-enter_at.result c.from_residual-in_err-enter_at.ensures.1 in
     let s = spelled g.K.Kind.meaning g.K.Notation.words g.K.Notation.initial g.T.TallyLetter.initial in
     let d = c.args.draft.now in
-    rw (p.1, p.2) (entry_refused (statement_fault s.code c.args.line.now) (refusal_field d.items) (entry_refusal s d.items d.rows.items) c.in_ok-entry.entry (entry_of s.code c.args.line.now) _ c.in_ok-entry.ensures c.in_err-enter_at.ensures.answer)
+    rw (p.1, p.2) (entry_refused (statement_fault s.code c.args.line.now) (refusal_field d.items) (entry_refusal s d.items d.rows.items) c.in_ok-entry.entry (entry_of s.code c.args.line.now) _ c.in_ok-entry.ensures.entry c.in_err-enter_at.ensures.answer)

@@ -1,0 +1,21 @@
+// How the programs read the heads of files.
+ghost use Rattle.std.specs.Prelude.{◌≡◌, ℕ, true, List};
+ghost use Rattle.files.specs.Files.{Own, ReadsWith};
+ghost use Rattle.files.specs.Letters.{Said};
+ghost use Rattle.files.specs.Views.{Contents, start_of, fits_draft};
+ghost use Rattle.files.specs.Words.{spelled};
+ghost use Rattle.reports.specs.Spellings.{spelling_of};
+
+use crate::printed::{PrintedKind, PrintedTally};
+
+/// Each head of a file is read by the words and letters of its own kind and tally. So a reader that is asked for each head in turn, and
+/// loads its sheet by them, meets just the first fault of its file, and loads just the sheets before it.
+pub fn heads_read()
+    ensures own { Own spelling_of }
+    ensures reads { (file : List ℕ) (had : Said → Contents) → ReadsWith spelling_of had file (start_of file) }
+{}
+
+/// A head whose letters are those of a draft is read by the words and letters of the draft's kind and tally, as `Reader::load` has them.
+pub fn head_read_as<K: PrintedKind, T: PrintedTally>()
+    ensures { (h : Said) → fits_draft (spelled K.Kind.meaning K.Notation.words K.Notation.initial T.TallyLetter.initial) h ≡ true → spelling_of h ≡ spelled K.Kind.meaning K.Notation.words K.Notation.initial T.TallyLetter.initial }
+{}
