@@ -3,3 +3,4 @@ pub mod Lines
 pub mod Found
 pub mod Account
 pub mod Faults
+pub mod Apart
