@@ -4,3 +4,4 @@ pub mod Found
 pub mod Account
 pub mod Faults
 pub mod Apart
+pub mod ReadBack
