@@ -1,13 +1,14 @@
 -- A report is read from its front, part by part.
-use Rattle.std.proofs.Common.{◌≡◌, ℕ, ◌+◌, ◌<◌, Bool, true, false, cond, List, [], ◌∷◌, ◌++◌, length, get_or, drop, sym, refl, ap, ◌∙◌, codes, append_assoc, arith}
+use Rattle.std.proofs.Common.{◌≡◌, ◌^◌, inl, inr, ℕ, ◌+◌, ◌<◌, Bool, true, false, cond, List, [], ◌∷◌, ◌++◌, length, get_or, drop, sym, refl, ap, ◌∙◌, codes, append_assoc, arith}
 use Rattle.std.specs.List.{AllByRecursion}
 use Rattle.std.specs.Fmt.{decimal}
 use Rattle.std.proofs.lemmas.List.{append_cancel_left}
+use Rattle.std.proofs.lemmas.Fmt.{length-decimal-le}
 use Rattle.files.specs.Parts.{Lacks}
 use Rattle.reports.specs.Lines.{Print, sheet_line, item_line, person_line, lines_from}
 use Rattle.reports.specs.Account.{Account}
 use Rattle.reports.specs.Apart.{decimals_apart, decimal_lacks, first_same}
-use Rattle.reports.specs.ReadBack.{ReadBack}
+use Rattle.reports.specs.ReadBack.{ReadBack, SameCharges}
 
 abbrev state : Bool → List ℕ
 state finished = cond finished (codes "final\n") (codes "open\n")
@@ -29,6 +30,12 @@ in_parts p number items cost floor true rest =
 in_parts p number items cost floor false rest =
     to_the_right (codes "sheet ") (decimal number) (32 ∷ p.kind ∷ 32 ∷ []) (decimal items) (32 ∷ p.tally ∷ []) (codes " cost ") (p.cost cost) (codes " floor ") (p.cost floor) (codes " open\n") rest
 
+five_and_rest : (a b c d e rest : List ℕ) → a ++ b ++ c ++ d ++ e ++ rest ≡ a ++ (b ++ (c ++ (d ++ (e ++ rest))))
+five_and_rest a b c d e rest = simp append_assoc refl
+
+short_number : (n : ℕ) → n < 2 ^ 64 → length (decimal n) < 64
+short_number n h = omega (arith, length-decimal-le 20 n (omega arith) (omega (arith, h)) h)
+
 three_and_three : (a b c d e rest : List ℕ) → a ++ b ++ c ++ d ++ e ++ rest ≡ (a ++ b ++ c) ++ (d ++ (e ++ rest))
 three_and_three a b c d e rest = simp append_assoc refl
 
@@ -48,8 +55,8 @@ module _ {V C : Type 0} (p : Print V C) (nothing : C → Bool)
       (append_cancel_left (codes "item " ++ decimal i ++ (32 ∷ [])) _ _ (sym (to u xs) ∙ e ∙ to v ys))
 
   items_same : (i : ℕ) (us vs : List V) (xs ys : List ℕ) → length us ≡ length vs → AllByRecursion (λ v. length (p.value v) < 64) us
-      → lines_from (item_line p) i us ++ xs ≡ lines_from (item_line p) i vs ++ ys → us ≡ vs
-  items_same i [] [] xs ys l s e = refl
+      → lines_from (item_line p) i us ++ xs ≡ lines_from (item_line p) i vs ++ ys → (us ≡ vs) × (xs ≡ ys)
+  items_same i [] [] xs ys l s e = (refl, e)
   items_same i [] (v ∷ vs) xs ys l s e = absurd (omega (arith, l))
   items_same i (u ∷ us) [] xs ys l s e = absurd (omega (arith, l))
   items_same i (u ∷ us) (v ∷ vs) xs ys l s e =
@@ -57,7 +64,62 @@ module _ {V C : Type 0} (p : Print V C) (nothing : C → Bool)
       (sym (append_assoc (item_line p i u) (lines_from (item_line p) (i + 1) us) xs) ∙ e ∙ append_assoc (item_line p i v) (lines_from (item_line p) (i + 1) vs) ys) in
       let value = values_apart u v s.0 here.0 in
       let others = items_same (i + 1) us vs xs ys (omega (arith, l)) s.1 here.1 in
-      λ t. value t ∷ others t
+      (λ t. value t ∷ others.0 t, others.1)
+
+  -- the line of a person who is charged more than nothing, and what follows
+  abbrev charged : ℕ → C → List ℕ → List ℕ
+  charged k c rest = codes "person " ++ (decimal k ++ (32 ∷ (codes "charge " ++ (p.cost c ++ (10 ∷ rest)))))
+
+  no_line : (k : ℕ) (c : C) (rest : List ℕ) → nothing c ≡ true → person_line p nothing k c ++ rest ≡ rest
+  no_line k c rest e = ap (λ (b : Bool). cond b [] (codes "person " ++ decimal k ++ codes " charge " ++ p.cost c ++ (10 ∷ [])) ++ rest) e
+
+  a_line : (k : ℕ) (c : C) (rest : List ℕ) → nothing c ≡ false → person_line p nothing k c ++ rest ≡ charged k c rest
+  a_line k c rest e =
+      ap (λ (b : Bool). cond b [] (codes "person " ++ decimal k ++ codes " charge " ++ p.cost c ++ (10 ∷ [])) ++ rest) e
+      ∙ five_and_rest (codes "person ") (decimal k) (codes " charge ") (p.cost c) (10 ∷ []) rest
+
+  -- no line of a later person begins as that of person k
+  later : (k j : ℕ) (cs : List C) (rest : List ℕ) → k < j → k < 2 ^ 64 → lines_from (person_line p nothing) j cs ≡ codes "person " ++ (decimal k ++ (32 ∷ rest)) → ⊥
+  later k j [] rest l s e = omega (arith, ap length e)
+  later k j (c ∷ cs) rest l s e = by (nothing c) refl (later k (j + 1) cs rest (omega (arith, l)) s)
+    where
+      by : (b : Bool) → nothing c ≡ b → (lines_from (person_line p nothing) (j + 1) cs ≡ codes "person " ++ (decimal k ++ (32 ∷ rest)) → ⊥) → ⊥
+      by true t others = others (sym (no_line j c _ t) ∙ e)
+      by false t others =
+          let same = first_same 32 (decimal k) rest (decimal j) _ (decimal_lacks 32 refl k) (decimal_lacks 32 refl j) (ap (drop 7) (sym e ∙ a_line j c _ t)) in
+          omega (arith, l, decimals_apart k j (short_number k s) same.0)
+
+  none_left : (k : ℕ) (ds : List C) → [] ≡ lines_from (person_line p nothing) k ds → SameCharges nothing [] ds
+  none_left k [] e = tt
+  none_left k (d ∷ ds) e = by (nothing d) refl (none_left (k + 1) ds)
+    where
+      by : (b : Bool) → nothing d ≡ b → ([] ≡ lines_from (person_line p nothing) (k + 1) ds → SameCharges nothing [] ds) → SameCharges nothing [] (d ∷ ds)
+      by true t others = (t, others (e ∙ no_line k d _ t))
+      by false t others = absurd (omega (arith, ap length (e ∙ a_line k d _ t)))
+
+  none_before : (k : ℕ) (cs : List C) → lines_from (person_line p nothing) k cs ≡ [] → SameCharges nothing cs []
+  none_before k [] e = tt
+  none_before k (c ∷ cs) e = by (nothing c) refl (none_before (k + 1) cs)
+    where
+      by : (b : Bool) → nothing c ≡ b → (lines_from (person_line p nothing) (k + 1) cs ≡ [] → SameCharges nothing cs []) → SameCharges nothing (c ∷ cs) []
+      by true t others = (t, others (sym (no_line k c _ t) ∙ e))
+      by false t others = absurd (omega (arith, ap length (sym (a_line k c _ t) ∙ e)))
+
+  charges_same : (k : ℕ) (cs ds : List C) → k + length cs < 2 ^ 64 → AllByRecursion (λ c. length (p.cost c) < 64) cs
+      → lines_from (person_line p nothing) k cs ≡ lines_from (person_line p nothing) k ds → SameCharges nothing cs ds
+  charges_same k [] ds l s e = none_left k ds e
+  charges_same k (c ∷ cs) [] l s e = none_before k (c ∷ cs) e
+  charges_same k (c ∷ cs) (d ∷ ds) l s e = by (nothing c) (nothing d) refl refl (charges_same (k + 1) cs ds (omega (arith, l)) s.1)
+    where
+      by : (b b' : Bool) → nothing c ≡ b → nothing d ≡ b'
+          → (lines_from (person_line p nothing) (k + 1) cs ≡ lines_from (person_line p nothing) (k + 1) ds → SameCharges nothing cs ds) → SameCharges nothing (c ∷ cs) (d ∷ ds)
+      by true true t u others = (inl (t, u), others (sym (no_line k c _ t) ∙ e ∙ no_line k d _ u))
+      by true false t u others = absurd (later k (k + 1) cs _ (omega arith) (omega (arith, l)) (sym (no_line k c _ t) ∙ e ∙ a_line k d _ u))
+      by false true t u others = absurd (later k (k + 1) ds _ (omega arith) (omega (arith, l)) (sym (no_line k d _ u) ∙ sym e ∙ a_line k c _ t))
+      by false false t u others =
+          let here = append_cancel_left (decimal k) _ _ (ap (drop 7) (sym (a_line k c _ t) ∙ e ∙ a_line k d _ u)) in
+          let same = first_same 10 (p.cost c) _ (p.cost d) _ (cost_lacks c).0 (cost_lacks d).0 (ap (drop 8) here) in
+          (inr (costs_apart c d s.0 same.0), others same.1)
 
   pub reads_back : ReadBack p nothing
   reads_back m n a b s e =
@@ -72,10 +134,12 @@ module _ {V C : Type 0} (p : Print V C) (nothing : C → Bool)
       let costs = first_same 32 (p.cost a.cost) _ (p.cost b.cost) _ (cost_lacks a.cost).1 (cost_lacks b.cost).1 (ap (drop 7) items.1) in
       let floors = first_same 32 (p.cost a.floor) _ (p.cost b.floor) _ (cost_lacks a.floor).1 (cost_lacks b.floor).1 (ap (drop 6) costs.1) in
       let states = state_same a.finished b.finished (rest a) (rest b) floors.1 in
+      let values = items_same 1 a.values b.values (charges a) (charges b) (decimals_apart (length a.values) (length b.values) (short_number (length a.values) s.items) items.0) s.values states.1 in
       record {
-        number = decimals_apart m n s.number sheets.0;
-        values = items_same 1 a.values b.values (charges a) (charges b) (decimals_apart (length a.values) (length b.values) s.items items.0) s.values states.1;
+        number = decimals_apart m n (short_number m s.number) sheets.0;
+        values = values.0;
         cost = costs_apart a.cost b.cost s.cost costs.0;
         floor = costs_apart a.floor b.floor s.floor floors.0;
         finished = states.0;
+        charges = charges_same 1 a.charges b.charges (omega (arith, s.persons)) s.charges values.1;
       }

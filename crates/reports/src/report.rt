@@ -117,8 +117,8 @@ fn report_text<K: PrintedKind, T: PrintedTally>(
 }
 
 /// Writes the lines of a sheet to the front of the buffer, whose rest stays, and answers how many bytes they are. Refused by `Short` if
-/// the buffer is too short, and by `Memory` if there is none to make the text; the buffer is then as it was. What the sheet's line and
-/// the items' lines say can be read back.
+/// the buffer is too short, and by `Memory` if there is none to make the text; the buffer is then as it was. What the lines say
+/// can be read back.
 pub fn write_report<K: PrintedKind, T: PrintedTally>(
     heap: Global,
     report: &Report<K::Value, T::Cost>,
