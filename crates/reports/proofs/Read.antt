@@ -10,6 +10,20 @@ use Rattle.reports.specs.Account.{Account}
 use Rattle.reports.specs.Apart.{decimals_apart, decimal_lacks, first_same}
 use Rattle.reports.specs.ReadBack.{ReadBack, SameCharges}
 
+short_number : (n : ℕ) → n < 2 ^ 64 → length (decimal n) < 64
+short_number n h = omega (arith, length-decimal-le 20 n (omega arith) (omega (arith, h)) h)
+
+-- texts one after another, put together from the right
+three_and_three : (a b c d e rest : List ℕ) → a ++ b ++ c ++ d ++ e ++ rest ≡ (a ++ b ++ c) ++ (d ++ (e ++ rest))
+three_and_three a b c d e rest = simp append_assoc refl
+
+five_and_rest : (a b c d e rest : List ℕ) → a ++ b ++ c ++ d ++ e ++ rest ≡ a ++ (b ++ (c ++ (d ++ (e ++ rest))))
+five_and_rest a b c d e rest = simp append_assoc refl
+
+to_the_right : (a b c d e f g h i j rest : List ℕ)
+    → a ++ b ++ c ++ d ++ e ++ (f ++ g ++ h ++ i ++ j) ++ rest ≡ a ++ (b ++ (c ++ (d ++ (e ++ (f ++ (g ++ (h ++ (i ++ (j ++ rest)))))))))
+to_the_right a b c d e f g h i j rest = simp append_assoc refl
+
 abbrev state : Bool → List ℕ
 state finished = cond finished (codes "final\n") (codes "open\n")
 
@@ -19,25 +33,12 @@ parts p number items cost floor finished rest =
     codes "sheet " ++ (decimal number ++ (32 ∷ p.kind ∷ 32 ∷ (decimal items ++ (32 ∷ p.tally ∷ (codes " cost " ++ (p.cost cost
     ++ (32 ∷ (codes "floor " ++ (p.cost floor ++ (32 ∷ (state finished ++ rest)))))))))))
 
-to_the_right : (a b c d e f g h i j rest : List ℕ)
-    → a ++ b ++ c ++ d ++ e ++ (f ++ g ++ h ++ i ++ j) ++ rest ≡ a ++ (b ++ (c ++ (d ++ (e ++ (f ++ (g ++ (h ++ (i ++ (j ++ rest)))))))))
-to_the_right a b c d e f g h i j rest = simp append_assoc refl
-
 in_parts : {V C : Type 0} (p : Print V C) (number items : ℕ) (cost floor : C) (finished : Bool) (rest : List ℕ)
     → sheet_line p number items cost floor finished ++ rest ≡ parts p number items cost floor finished rest
 in_parts p number items cost floor true rest =
     to_the_right (codes "sheet ") (decimal number) (32 ∷ p.kind ∷ 32 ∷ []) (decimal items) (32 ∷ p.tally ∷ []) (codes " cost ") (p.cost cost) (codes " floor ") (p.cost floor) (codes " final\n") rest
 in_parts p number items cost floor false rest =
     to_the_right (codes "sheet ") (decimal number) (32 ∷ p.kind ∷ 32 ∷ []) (decimal items) (32 ∷ p.tally ∷ []) (codes " cost ") (p.cost cost) (codes " floor ") (p.cost floor) (codes " open\n") rest
-
-five_and_rest : (a b c d e rest : List ℕ) → a ++ b ++ c ++ d ++ e ++ rest ≡ a ++ (b ++ (c ++ (d ++ (e ++ rest))))
-five_and_rest a b c d e rest = simp append_assoc refl
-
-short_number : (n : ℕ) → n < 2 ^ 64 → length (decimal n) < 64
-short_number n h = omega (arith, length-decimal-le 20 n (omega arith) (omega (arith, h)) h)
-
-three_and_three : (a b c d e rest : List ℕ) → a ++ b ++ c ++ d ++ e ++ rest ≡ (a ++ b ++ c) ++ (d ++ (e ++ rest))
-three_and_three a b c d e rest = simp append_assoc refl
 
 state_same : (b d : Bool) (xs ys : List ℕ) → state b ++ xs ≡ state d ++ ys → (b ≡ d) × (xs ≡ ys)
 state_same true true xs ys e = (refl, ap (drop 6) e)
@@ -48,6 +49,7 @@ state_same false false xs ys e = (refl, ap (drop 5) e)
 module _ {V C : Type 0} (p : Print V C) (nothing : C → Bool)
     (values_apart : (u v : V) → length (p.value u) < 64 → p.value u ≡ p.value v → u ≡ v) (value_lacks : (v : V) → Lacks 10 (p.value v))
     (costs_apart : (c d : C) → length (p.cost c) < 64 → p.cost c ≡ p.cost d → c ≡ d) (cost_lacks : (c : C) → Lacks 10 (p.cost c) × Lacks 32 (p.cost c)) where
+  -- the lines of an item, and then of all
   item_same : (i : ℕ) (u v : V) (xs ys : List ℕ) → item_line p i u ++ xs ≡ item_line p i v ++ ys → (p.value u ≡ p.value v) × (xs ≡ ys)
   item_same i u v xs ys e =
       let to : (w : V) (zs : List ℕ) → item_line p i w ++ zs ≡ (codes "item " ++ decimal i ++ (32 ∷ [])) ++ (p.value w ++ (10 ∷ zs)) = λ w zs. three_and_three (codes "item ") (decimal i) (32 ∷ []) (p.value w) (10 ∷ []) zs in
@@ -89,6 +91,7 @@ module _ {V C : Type 0} (p : Print V C) (nothing : C → Bool)
           let same = first_same 32 (decimal k) rest (decimal j) _ (decimal_lacks 32 refl k) (decimal_lacks 32 refl j) (ap (drop 7) (sym e ∙ a_line j c _ t)) in
           omega (arith, l, decimals_apart k j (short_number k s) same.0)
 
+  -- the persons of one list, when the other has come to its end
   none_left : (k : ℕ) (ds : List C) → [] ≡ lines_from (person_line p nothing) k ds → SameCharges nothing [] ds
   none_left k [] e = tt
   none_left k (d ∷ ds) e = by (nothing d) refl (none_left (k + 1) ds)
@@ -105,6 +108,7 @@ module _ {V C : Type 0} (p : Print V C) (nothing : C → Bool)
       by true t others = (t, others (sym (no_line k c _ t) ∙ e))
       by false t others = absurd (omega (arith, ap length (sym (a_line k c _ t) ∙ e)))
 
+  -- the lines of the persons
   charges_same : (k : ℕ) (cs ds : List C) → k + length cs < 2 ^ 64 → AllByRecursion (λ c. length (p.cost c) < 64) cs
       → lines_from (person_line p nothing) k cs ≡ lines_from (person_line p nothing) k ds → SameCharges nothing cs ds
   charges_same k [] ds l s e = none_left k ds e
@@ -121,6 +125,7 @@ module _ {V C : Type 0} (p : Print V C) (nothing : C → Bool)
           let same = first_same 10 (p.cost c) _ (p.cost d) _ (cost_lacks c).0 (cost_lacks d).0 (ap (drop 8) here) in
           (inr (costs_apart c d s.0 same.0), others same.1)
 
+  -- the whole report
   pub reads_back : ReadBack p nothing
   reads_back m n a b s e =
       let charges : Account V C → List ℕ = λ x. lines_from (person_line p nothing) 1 x.charges in
