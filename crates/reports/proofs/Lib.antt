@@ -1,5 +1,6 @@
 -- The lemmas, by topic.
 pub mod Lined
+pub mod Read
 pub mod Seen
 pub mod Settled
 pub mod Sights

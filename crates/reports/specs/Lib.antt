@@ -4,3 +4,5 @@ pub mod Found
 pub mod Account
 pub mod Faults
 pub mod Spellings
+pub mod Apart
+pub mod ReadBack

@@ -1,13 +1,15 @@
 // How values and costs are printed.
-ghost use Rattle.std.specs.Prelude.{◌≡◌, ℕ, List, ◌∷◌, ◌++◌, Some, refl};
+ghost use Rattle.std.specs.Prelude.{◌≡◌, ℕ, ◌<◌, List, ◌∷◌, ◌++◌, length, Some, refl};
 ghost use Rattle.std.specs.Fmt.{decimal};
 ghost use Rattle.files.specs.declared.head.HeadKind.{HeadKind};
 ghost use Rattle.files.specs.declared.head.HeadKind.TheVariants.{Moments as OfMoments, Spells as OfSpells, Dwellings as OfDwellings};
 ghost use Rattle.files.specs.declared.head.HeadTally.{HeadTally};
 ghost use Rattle.files.specs.declared.head.HeadTally.TheVariants.{ByWeight as OfWeight, SwornFirst as OfSworn};
 ghost use Rattle.files.specs.Letters.{kind_letter, tally_letter};
+ghost use Rattle.files.specs.Parts.{Lacks};
 ghost use Rattle.files.specs.Words.{spelled};
 ghost use Rattle.reports.specs.Spellings.{spelled_as};
+ghost use Rattle.reports.specs.Apart.{decimals_apart, pairs_apart, decimal_lacks, pair_lacks};
 
 use dwellings::Dwellings;
 use files::letter::TallyLetter;
@@ -28,6 +30,13 @@ pub trait PrintedKind: Kind<Value: Display> + Notation {
     /// They are what is printed of it.
     ghost value_printed: { (v : Self.Value) → Self.Value.output v ≡ Some (value_text v) };
 
+    /// Values with the same text are the same. A clause speaks of numbers without end, and a number of more than 64 digits, which no value
+    /// holds, is printed as if it had 64: hence texts of less than 64 bytes.
+    ghost told_apart: { (u v : Self.Value) → length (value_text u) < 64 → value_text u ≡ value_text v → u ≡ v };
+
+    /// No line feed stands in a text.
+    ghost on_one_line: { (v : Self.Value) → Lacks 10 (value_text v) };
+
     /// How heads of files name the kind.
     ghost head: { HeadKind };
 
@@ -46,6 +55,12 @@ pub trait PrintedTally: Tally<Cost: Display> + TallyLetter {
     /// They are what is printed of it.
     ghost cost_printed: { (c : Self.Cost) → Self.Cost.output c ≡ Some (cost_text c) };
 
+    /// Costs with the same text are the same, as values are.
+    ghost told_apart: { (c d : Self.Cost) → length (cost_text c) < 64 → cost_text c ≡ cost_text d → c ≡ d };
+
+    /// Neither a line feed nor a space stands in a text.
+    ghost on_one_line: { (c : Self.Cost) → Lacks 10 (cost_text c) × Lacks 32 (cost_text c) };
+
     /// How heads of files name the tally.
     ghost head: { HeadTally };
 
@@ -57,6 +72,10 @@ impl PrintedKind for Moments {
     ghost value_text = { λ v. decimal v.at };
 
     ghost value_printed = { λ v. refl };
+
+    ghost told_apart = { λ u v short same i. record { at = decimals_apart u.at v.at short same i } };
+
+    ghost on_one_line = { λ v. decimal_lacks 10 refl v.at };
 
     ghost head = { OfMoments };
 
@@ -70,6 +89,10 @@ impl PrintedKind for Spells {
 
     ghost value_printed = { λ v. refl };
 
+    ghost told_apart = { λ u v short same i. let h = pairs_apart 32 refl u.start u.end v.start v.end short same in record { start = h.0 i; end = h.1 i } };
+
+    ghost on_one_line = { λ v. pair_lacks 10 refl 32 refl v.start v.end };
+
     ghost head = { OfSpells };
 
     ghost lettered = { refl };
@@ -81,6 +104,10 @@ impl PrintedKind for Dwellings {
     ghost value_text = { λ v. decimal v.east ++ 32 ∷ decimal v.north };
 
     ghost value_printed = { λ v. refl };
+
+    ghost told_apart = { λ u v short same i. let h = pairs_apart 32 refl u.east u.north v.east v.north short same in record { east = h.0 i; north = h.1 i } };
+
+    ghost on_one_line = { λ v. pair_lacks 10 refl 32 refl v.east v.north };
 
     ghost head = { OfDwellings };
 
@@ -94,6 +121,10 @@ impl PrintedTally for ByWeight {
 
     ghost cost_printed = { λ c. refl };
 
+    ghost told_apart = { decimals_apart };
+
+    ghost on_one_line = { λ c. (decimal_lacks 10 refl c, decimal_lacks 32 refl c) };
+
     ghost head = { OfWeight };
 
     ghost lettered = { refl };
@@ -103,6 +134,10 @@ impl PrintedTally for SwornFirst {
     ghost cost_text = { λ c. decimal c.sworn ++ 47 ∷ decimal c.weight };
 
     ghost cost_printed = { λ c. refl };
+
+    ghost told_apart = { λ c d short same i. let h = pairs_apart 47 refl c.sworn c.weight d.sworn d.weight short same in record { sworn = h.0 i; weight = h.1 i } };
+
+    ghost on_one_line = { λ c. (pair_lacks 10 refl 47 refl c.sworn c.weight, pair_lacks 32 refl 47 refl c.sworn c.weight) };
 
     ghost head = { OfSworn };
 
