@@ -1,4 +1,4 @@
-// How values and costs are printed.
+// How values and costs are printed, and what is read of them.
 ghost use Rattle.std.specs.Prelude.{◌≡◌, ℕ, ◌<◌, List, ◌∷◌, ◌++◌, length, Some, refl};
 ghost use Rattle.std.specs.Fmt.{decimal};
 ghost use Rattle.files.specs.declared.head.HeadKind.{HeadKind};
@@ -29,13 +29,55 @@ pub trait PrintedKind: Kind<Value: Display> + Notation {
 
     /// They are what is printed of it.
     ghost value_printed: { (v : Self.Value) → Self.Value.output v ≡ Some (value_text v) };
+}
 
+/// A tally whose costs can be printed.
+pub trait PrintedTally: Tally<Cost: Display> + TallyLetter {
+    /// The bytes of a cost.
+    ghost cost_text: { Self.Cost → List ℕ };
+
+    /// They are what is printed of it.
+    ghost cost_printed: { (c : Self.Cost) → Self.Cost.output c ≡ Some (cost_text c) };
+}
+
+impl PrintedKind for Moments {
+    ghost value_text = { λ v. decimal v.at };
+
+    ghost value_printed = { λ v. refl };
+}
+
+impl PrintedKind for Spells {
+    ghost value_text = { λ v. decimal v.start ++ 32 ∷ decimal v.end };
+
+    ghost value_printed = { λ v. refl };
+}
+
+impl PrintedKind for Dwellings {
+    ghost value_text = { λ v. decimal v.east ++ 32 ∷ decimal v.north };
+
+    ghost value_printed = { λ v. refl };
+}
+
+impl PrintedTally for ByWeight {
+    ghost cost_text = { decimal };
+
+    ghost cost_printed = { λ c. refl };
+}
+
+impl PrintedTally for SwornFirst {
+    ghost cost_text = { λ c. decimal c.sworn ++ 47 ∷ decimal c.weight };
+
+    ghost cost_printed = { λ c. refl };
+}
+
+/// A kind whose sheets heads name, and whose values can be read back from a report.
+pub trait ReadKind: PrintedKind {
     /// Values with the same text are the same. A clause speaks of numbers without end, and a number of more than 64 digits, which no value
     /// holds, is printed as if it had 64: hence texts of less than 64 bytes.
-    ghost told_apart: { (u v : Self.Value) → length (value_text u) < 64 → value_text u ≡ value_text v → u ≡ v };
+    ghost told_apart: { (u v : Self.Value) → length (Self.PrintedKind.value_text u) < 64 → Self.PrintedKind.value_text u ≡ Self.PrintedKind.value_text v → u ≡ v };
 
     /// No line feed stands in a text.
-    ghost on_one_line: { (v : Self.Value) → Lacks 10 (value_text v) };
+    ghost on_one_line: { (v : Self.Value) → Lacks 10 (Self.PrintedKind.value_text v) };
 
     /// How heads of files name the kind.
     ghost head: { HeadKind };
@@ -47,19 +89,13 @@ pub trait PrintedKind: Kind<Value: Display> + Notation {
     ghost read_by: { (tally : ℕ) → spelled_as head tally ≡ spelled Self.Kind.meaning Self.Notation.words Self.Notation.initial tally };
 }
 
-/// A tally whose costs can be printed.
-pub trait PrintedTally: Tally<Cost: Display> + TallyLetter {
-    /// The bytes of a cost.
-    ghost cost_text: { Self.Cost → List ℕ };
-
-    /// They are what is printed of it.
-    ghost cost_printed: { (c : Self.Cost) → Self.Cost.output c ≡ Some (cost_text c) };
-
+/// A tally that heads name, and whose costs can be read back from a report.
+pub trait ReadTally: PrintedTally {
     /// Costs with the same text are the same, as values are.
-    ghost told_apart: { (c d : Self.Cost) → length (cost_text c) < 64 → cost_text c ≡ cost_text d → c ≡ d };
+    ghost told_apart: { (c d : Self.Cost) → length (Self.PrintedTally.cost_text c) < 64 → Self.PrintedTally.cost_text c ≡ Self.PrintedTally.cost_text d → c ≡ d };
 
     /// Neither a line feed nor a space stands in a text.
-    ghost on_one_line: { (c : Self.Cost) → Lacks 10 (cost_text c) × Lacks 32 (cost_text c) };
+    ghost on_one_line: { (c : Self.Cost) → Lacks 10 (Self.PrintedTally.cost_text c) × Lacks 32 (Self.PrintedTally.cost_text c) };
 
     /// How heads of files name the tally.
     ghost head: { HeadTally };
@@ -68,11 +104,7 @@ pub trait PrintedTally: Tally<Cost: Display> + TallyLetter {
     ghost lettered: { tally_letter head ≡ Self.TallyLetter.initial };
 }
 
-impl PrintedKind for Moments {
-    ghost value_text = { λ v. decimal v.at };
-
-    ghost value_printed = { λ v. refl };
-
+impl ReadKind for Moments {
     ghost told_apart = { λ u v short same i. record { at = decimals_apart u.at v.at short same i } };
 
     ghost on_one_line = { λ v. decimal_lacks 10 refl v.at };
@@ -84,11 +116,7 @@ impl PrintedKind for Moments {
     ghost read_by = { λ tally. refl };
 }
 
-impl PrintedKind for Spells {
-    ghost value_text = { λ v. decimal v.start ++ 32 ∷ decimal v.end };
-
-    ghost value_printed = { λ v. refl };
-
+impl ReadKind for Spells {
     ghost told_apart = { λ u v short same i. let h = pairs_apart 32 refl u.start u.end v.start v.end short same in record { start = h.0 i; end = h.1 i } };
 
     ghost on_one_line = { λ v. pair_lacks 10 refl 32 refl v.start v.end };
@@ -100,11 +128,7 @@ impl PrintedKind for Spells {
     ghost read_by = { λ tally. refl };
 }
 
-impl PrintedKind for Dwellings {
-    ghost value_text = { λ v. decimal v.east ++ 32 ∷ decimal v.north };
-
-    ghost value_printed = { λ v. refl };
-
+impl ReadKind for Dwellings {
     ghost told_apart = { λ u v short same i. let h = pairs_apart 32 refl u.east u.north v.east v.north short same in record { east = h.0 i; north = h.1 i } };
 
     ghost on_one_line = { λ v. pair_lacks 10 refl 32 refl v.east v.north };
@@ -116,11 +140,7 @@ impl PrintedKind for Dwellings {
     ghost read_by = { λ tally. refl };
 }
 
-impl PrintedTally for ByWeight {
-    ghost cost_text = { decimal };
-
-    ghost cost_printed = { λ c. refl };
-
+impl ReadTally for ByWeight {
     ghost told_apart = { decimals_apart };
 
     ghost on_one_line = { λ c. (decimal_lacks 10 refl c, decimal_lacks 32 refl c) };
@@ -130,11 +150,7 @@ impl PrintedTally for ByWeight {
     ghost lettered = { refl };
 }
 
-impl PrintedTally for SwornFirst {
-    ghost cost_text = { λ c. decimal c.sworn ++ 47 ∷ decimal c.weight };
-
-    ghost cost_printed = { λ c. refl };
-
+impl ReadTally for SwornFirst {
     ghost told_apart = { λ c d short same i. let h = pairs_apart 47 refl c.sworn c.weight d.sworn d.weight short same in record { sworn = h.0 i; weight = h.1 i } };
 
     ghost on_one_line = { λ c. (pair_lacks 10 refl 47 refl c.sworn c.weight, pair_lacks 32 refl 47 refl c.sworn c.weight) };

@@ -1,7 +1,6 @@
 // The report of a settled sheet, line by line.
 ghost use Rattle.std.specs.Prelude.{◌≡◌, ℕ, List, ◌++◌, length, IfOk, OnOk, string_bytes};
 ghost use Rattle.reports.specs.Lines.{print, costs_part, sheet_line, item_line, person_line, lines_from, report_of, PutsOrWants};
-ghost use Rattle.reports.specs.ReadBack.{ReadBack};
 
 use crate::printed::{PrintedKind, PrintedTally};
 use crate::text::put;
@@ -117,15 +116,13 @@ fn report_text<K: PrintedKind, T: PrintedTally>(
 }
 
 /// Writes the lines of a sheet to the front of the buffer, whose rest stays, and answers how many bytes they are. Refused by `Short` if
-/// the buffer is too short, and by `Memory` if there is none to make the text; the buffer is then as it was. What the lines say
-/// can be read back.
+/// the buffer is too short, and by `Memory` if there is none to make the text; the buffer is then as it was.
 pub fn write_report<K: PrintedKind, T: PrintedTally>(
     heap: Global,
     report: &Report<K::Value, T::Cost>,
     buffer: &mut [u8],
 ) -> Result<usize, Fault>
-    ensures bytes { PutsOrWants (report_of (print K.Notation.initial T.TallyLetter.initial K.PrintedKind.value_text T.PrintedTally.cost_text) (λ c. T.Tally.order c T.Joins.joining.empty) report.now.number report.now.sight.now.values.items report.now.sight.now.shown.cost report.now.sight.now.shown.floor report.now.sight.now.shown.finished report.now.charges.now) buffer.old buffer.new result }
-    ensures read_back { ReadBack (print K.Notation.initial T.TallyLetter.initial K.PrintedKind.value_text T.PrintedTally.cost_text) (λ c. T.Tally.order c T.Joins.joining.empty) }
+    ensures { PutsOrWants (report_of (print K.Notation.initial T.TallyLetter.initial K.PrintedKind.value_text T.PrintedTally.cost_text) (λ c. T.Tally.order c T.Joins.joining.empty) report.now.number report.now.sight.now.values.items report.now.sight.now.shown.cost report.now.sight.now.shown.floor report.now.sight.now.shown.finished report.now.charges.now) buffer.old buffer.new result }
 {
     // By the rule for reports the text is put at the front of the caller's buffer; to hand it out would be another public call.
     put(buffer, report_text::<K, T>(heap, report)?.as_slice())
