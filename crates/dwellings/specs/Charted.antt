@@ -1,15 +1,16 @@
 -- Dwellings are one mark on each of two axes.
-use Rattle.std.specs.Prelude.{◌≡◌, ℕ, zero, suc, ◌<◌, Bool, ◌&&◌, T, nat_lt, refl}
-use Rattle.std.proofs.Common.{ap₂, arith, not-suc-le-zero, le_of_suc-le-suc}
+use Rattle.std.specs.Prelude.{◌≡◌, ℕ, zero, suc, ◌<◌, ◌≤◌, Bool, ◌&&◌, T, nat_lt, refl}
+use Rattle.std.proofs.Common.{ap, ap₂, arith, not-suc-le-zero, le_of_suc-le-suc}
 use Prim.Native.Nat.{Ordering, compare}
 use Rattle.std.proofs.lemmas.Bool.{ltb-true}
+use Rattle.std.proofs.lemmas.List.{get_or_past}
 use Rattle.points.specs.Points.{Says, same as alike}
 use Rattle.points.proofs.Finite.{both_left, both_right, true_from, every, every_at}
 use Rattle.points.proofs.Compare.{said, says, same_eq, compare_self}
 use Rattle.dwellings.specs.declared.Dwelling.{Dwelling}
-use Rattle.kinds.specs.Meaning.{Realisation}
-use Rattle.dwellings.specs.Dwellings.{Direction, same, north, north_east, east, south_east, south, south_west, west, north_west, Holds, coded, code, dwellings, eastward, northward, along, compass, dwelling}
-use Rattle.kinds.proofs.Framed.{Frame, realises}
+use Rattle.kinds.specs.Meaning.{Partition, Realisation}
+use Rattle.dwellings.specs.Dwellings.{Direction, directions, same, north, north_east, east, south_east, south, south_west, west, north_west, Holds, coded, code, dwellings, eastward, northward, along, compass, dwelling}
+use Rattle.kinds.proofs.Framed.{Frame, partition, realises}
 
 -- a direction by its two comparisons
 abbrev Axes : Direction → Dwelling → Dwelling → Type 0
@@ -60,6 +61,13 @@ code_northward o p =
     (both_right (alike o (eastward (coded (code o p)))) (alike p (northward (coded (code o p))))
     (both_right (nat_lt (code o p) 9) (alike o (eastward (coded (code o p))) && alike p (northward (coded (code o p)))) (all_told o p)))
 
+-- a number that is no code has two dwellings at the same place, along each axis
+pub eastward_beyond : (c : ℕ) → 9 ≤ c → eastward (coded c) ≡ Ordering.eq
+eastward_beyond c h = ap eastward (get_or_past directions c same h)
+
+pub northward_beyond : (c : ℕ) → 9 ≤ c → northward (coded c) ≡ Ordering.eq
+northward_beyond c h = ap northward (get_or_past directions c same h)
+
 abbrev number : Dwelling → ℕ → ℕ → ℕ
 number v zero s = v.east
 number v (suc a) s = v.north
@@ -74,7 +82,6 @@ charted = record {
   make = λ f. at_numbers (f 0 0) (f 1 0);
   made = made;
   same_codes = refl;
-  determined = λ u v e. ap₂ at_numbers (e 0 0 (omega arith) (omega arith)) (e 1 0 (omega arith) (omega arith));
   ascends = λ v h a s t ha hs ht. alone v a s t hs ht;
   lawful = λ v h. tt;
   seen = λ u v hu hv c h. (h.0, λ a s t ha hs ht. seen u v c (axes_of (coded c) u v h.1) a s t);
@@ -114,6 +121,11 @@ charted = record {
     told_along : (u v : Dwelling) (a s t : ℕ) → compare (number u a s) (number v a t) ≡ along a (coded (dwellings.relation u v))
     told_along u v zero s t = code_eastward (compare u.east v.east) (compare u.north v.north)
     told_along u v (suc a) s t = code_northward (compare u.east v.east) (compare u.north v.north)
+
+-- each of the nine directions holds of some dwellings, and `eq` of no two that differ
+pub dwellings_partition : Partition dwellings
+unfolding charted
+dwellings_partition = partition dwellings compass charted (λ u v e. ap₂ at_numbers (e 0 0 (omega arith) (omega arith)) (e 1 0 (omega arith) (omega arith)))
 
 -- counting the items to the west and to the south realises a scenario of dwellings
 pub dwellings_realise : Realisation dwellings dwelling

@@ -6,12 +6,12 @@ ghost use Rattle.std.specs.Fmt.{decimal};
 ghost use Rattle.kinds.specs.Layouts.{fit};
 ghost use Rattle.dwellings.specs.Dwellings.{dwelling_words, dwellings, compass, dwelling};
 ghost use Rattle.kinds.proofs.Framed.{laws};
-ghost use Rattle.dwellings.specs.Charted.{charted, dwellings_realise};
+ghost use Rattle.dwellings.specs.Charted.{charted, dwellings_partition, dwellings_realise};
 ghost use Rattle.kinds.proofs.Framed;
 ghost use Rattle.kinds.proofs.Worded;
 
-use kinds::kind::Kind;
-use kinds::notation::Notation;
+use kinds::kind::{Kind, Scheme};
+use kinds::notation::{Notation, WholeNotation};
 use kinds::table::{Row, look_up};
 use points::axis::{Axis, Order};
 use points::set::contains;
@@ -202,18 +202,16 @@ impl Kind for Dwellings {
     }
 }
 
+impl Scheme for Dwellings {
+    ghost partition = { dwellings_partition };
+}
+
 impl Notation for Dwellings {
     ghost initial = { 68 };
 
     ghost words = { dwelling_words };
 
-    ghost worded = { refl };
-
-    ghost written = { refl };
-
     ghost unambiguous = { Worded.unambiguous dwelling_words tt };
-
-    ghost named = { Worded.named dwelling_words (Worded.unambiguous dwelling_words tt) };
 
     // The byte of the format.
     fn letter() -> u8 {
@@ -250,6 +248,14 @@ impl Notation for Dwellings {
             _ => None,
         }
     }
+}
+
+impl WholeNotation for Dwellings {
+    ghost worded = { refl };
+
+    ghost written = { refl };
+
+    ghost named = { Worded.named dwelling_words (Worded.unambiguous dwelling_words tt) };
 }
 
 /// The east number, a space, the north number. Nothing derives it: each type is printed in its own way.

@@ -1,5 +1,5 @@
 -- What a line that is read says, by its bytes.
-use Rattle.std.proofs.Common.{◌≡◌, ◌↔◌, ℕ, zero, suc, ◌<◌, ◌^◌, Bool, true, false, not, cond, ◌||◌, List, [], ◌∷◌, ◌++◌, length, get_or, is_some, Some, None, Ok, Option, Result, sym, refl, ap, ◌∙◌, subst, arith, ◌==◌, leb, codes}
+use Rattle.std.proofs.Common.{◌≡◌, ◌↔◌, ℕ, ◌<◌, ◌^◌, Bool, true, false, cond, ◌||◌, List, [], ◌∷◌, length, get_or, None, Ok, Option, Result, sym, refl, ap, ◌∙◌, subst, arith, ◌==◌, leb, codes}
 use Rattle.std.proofs.lemmas.Bool.{leb-true, le-leb, eqb-true, ne_eqb, and_parts, cond-false}
 use Rattle.std.proofs.lemmas.Bool.Decides.{nat_tests}
 use Rattle.std.proofs.lemmas.Fmt.{digits_decimal, digits_value-decimal}
@@ -8,7 +8,6 @@ use Rattle.std.specs.Fmt.{decimal}
 use Rattle.std.specs.Int.{is_in_range}
 use Rattle.std.specs.List.{join_with_byte, AllByRecursion, list_all}
 use Rattle.std.specs.Option.{option_or}
-use Rattle.kinds.specs.Words.{read, writable, Named}
 use Rattle.statements.specs.declared.entry.Entry.{Entry}
 use Rattle.files.specs.declared.fault.FieldFault.TheVariants.{NotWord}
 use Rattle.files.specs.declared.fault.LineFault.{LineFault}
@@ -18,9 +17,9 @@ use Rattle.files.specs.Heads.{line_fits, field, letter, is_kind, is_tally, head_
 use Rattle.files.specs.Numbers.{is_number, value_of}
 use Rattle.files.specs.Parts.{parted, fields, Lacks}
 use Rattle.files.specs.Statements.{is_mark, has_field, entry_in, entry_of, SaysEntry}
-use Rattle.files.specs.Words.{below, code_of, are_words, set_of}
+use Rattle.files.specs.Words.{are_words, set_of}
 use Rattle.files.proofs.Digits.{digit_parts, numerals, number_written, written_number}
-use Rattle.files.proofs.Parting.{parted_cut, parted_whole, parts_joined}
+use Rattle.files.proofs.Parting.{parted_cut, parted_whole, part_lacks, parts_joined}
 
 -- A check is passed exactly if what should hold does.
 passed : {F T : Type 0} (b : Bool) (f : F) (o : Option F) (x y : T) → answered (option_or (unless b f) o) x ≡ Ok y → (b ≡ true) × (answered o x ≡ Ok y)
@@ -182,54 +181,7 @@ alike a a' b b' s s' w w' p p' m m' ea eb es ew ep em = cc
 alike_fields : (a a' b b' w c c' d d' : List ℕ) (ms : List (List ℕ)) → a ≡ a' → b ≡ b' → c ≡ c' → d ≡ d' → ◌≡◌ {A = List (List ℕ)} (a ∷ b ∷ w ∷ c ∷ d ∷ ms) (a' ∷ b' ∷ w ∷ c' ∷ d' ∷ ms)
 alike_fields a a' b b' w c c' d d' ms ea eb ec ed = cc
 
--- no space stands in words of a kind, since a line of a file can hold each
-bytes_lack : (w : List ℕ) → list_all (λ b. not (b == 47 || (b == 32 || b == 10))) w ≡ true → Lacks 32 w
-bytes_lack [] e = tt
-bytes_lack (b ∷ w) e =
-    let p = and_parts (not (b == 47 || (b == 32 || b == 10))) (list_all (λ x. not (x == 47 || (x == 32 || x == 10))) w) e in
-    (λ z. absurd (grind (arith, nat_tests, p.0, z)), bytes_lack w p.1)
-
-writable_lacks : (w : List ℕ) → writable w ≡ true → Lacks 32 w
-writable_lacks w e = bytes_lack w (and_parts (leb (length w) 64) _ (and_parts (leb 1 (length w)) _ e).1).1
-
-name_lacks : (names : List (List ℕ)) → list_all writable names ≡ true → (c : ℕ) → c < length names → Lacks 32 (get_or names c [])
-name_lacks [] e c h = absurd (omega (arith, h))
-name_lacks (n ∷ ns) e zero h = writable_lacks n (and_parts (writable n) (list_all writable ns) e).0
-name_lacks (n ∷ ns) e (suc c) h = name_lacks ns (and_parts (writable n) (list_all writable ns) e).1 c (omega (arith, h))
-
-is_read : (codes : ℕ) (b : Bool) (o : Option ℕ) → is_some (cond b None (below codes o)) ≡ true → (c : ℕ) × (o ≡ Some c)
-is_read codes true o e = cc
-is_read codes false None e = cc
-is_read codes false (Some c) e = (c, refl)
-
-word_lacks : (codes : ℕ) (names : List (List ℕ)) → Named names → list_all writable names ≡ true → (w : List ℕ) → is_some (code_of codes names w) ≡ true → Lacks 32 w
-word_lacks codes names named written w e =
-    let (c, r) = is_read codes (length w == 0) (read names w) e in
-    let p = (named w c).0 r in
-    subst (Lacks 32) (sym p.1) (name_lacks names written c p.0)
-
-append_lacks : (xs ys : List ℕ) → Lacks 32 xs → Lacks 32 ys → Lacks 32 (xs ++ ys)
-append_lacks [] ys a b = b
-append_lacks (x ∷ xs) ys a b = (a.0, append_lacks xs ys a.1 b)
-
-joined_lacks : (ws : List (List ℕ)) → AllByRecursion (Lacks 32) ws → Lacks 32 (join_with_byte 47 ws)
-joined_lacks [] l = tt
-joined_lacks (w ∷ []) l = l.0
-joined_lacks (w ∷ v ∷ ws) l = append_lacks w _ l.0 (λ z. absurd (omega (arith, z)), joined_lacks (v ∷ ws) l.1)
-
-module _ (code : List ℕ → Option ℕ) (clean : (w : List ℕ) → is_some (code w) ≡ true → Lacks 32 w) where
-  each_lacks : (ws : List (List ℕ)) → list_all (λ w. is_some (code w)) ws ≡ true → AllByRecursion (Lacks 32) ws
-  each_lacks [] e = tt
-  each_lacks (w ∷ ws) e =
-      let p = and_parts (is_some (code w)) (list_all (λ x. is_some (code x)) ws) e in
-      (clean w p.0, each_lacks ws p.1)
-
-  words_lack : (field : List ℕ) → are_words code field ≡ true → Lacks 32 field
-  unfolding are_words
-  words_lack [] e = tt
-  words_lack (b ∷ bs) e = subst (Lacks 32) (parts_joined 47 (b ∷ bs)) (joined_lacks (parted 47 (b ∷ bs)) (each_lacks (parted 47 (b ∷ bs)) e))
-
-module _ (code : List ℕ → Option ℕ) (clean : (w : List ℕ) → is_some (code w) ≡ true → Lacks 32 w) (line : List ℕ) where
+module _ (code : List ℕ → Option ℕ) (line : List ℕ) where
   entry_said : (e : Entry) → entry_in code line ≡ Ok e → SaysEntry code line e
   entry_said e o =
       let x = entry_of code line in
@@ -248,6 +200,7 @@ module _ (code : List ℕ → Option ℕ) (clean : (w : List ℕ) → is_some (c
       let f = five (fields line) k.0 m.0 in
       let said : SaysEntry code line x = record {
         words = field 3 line;
+        one_field = part_lacks 32 line 2 (grind (arith, nat_tests, k.0));
         fields = sym (parts_joined 32 line) ∙ ap (join_with_byte 32) (f ∙ alike_fields _ _ _ _ (field 3 line) _ _ _ _ (marks (has_field 6 line)) w1.1 w2.1 w4.1 w5.1);
         short = leb-true _ _ a.0;
         first = w1.0;
@@ -269,7 +222,7 @@ module _ (code : List ℕ → Option ℕ) (clean : (w : List ℕ) → is_some (c
       let f : fields line ≡ listed a b s.words c d e.sworn =
       ap fields s.fields ∙ parted_join 32 a (b ∷ s.words ∷ c ∷ d ∷ marks e.sworn) (
         decimal_lacks e.first s.first,
-        (decimal_lacks e.second s.second, (words_lack code clean s.words g.0, (decimal_lacks e.weight s.weight, (decimal_lacks e.person s.person, marks_lack e.sworn)))),
+        (decimal_lacks e.second s.second, (s.one_field, (decimal_lacks e.weight s.weight, (decimal_lacks e.person s.person, marks_lack e.sworn)))),
       ) in
       let f1 : field 1 line ≡ a = ap (λ fs. get_or fs 0 []) f in
       let f2 : field 2 line ≡ b = ap (λ fs. get_or fs 1 []) f in
@@ -294,9 +247,5 @@ module _ (code : List ℕ → Option ℕ) (clean : (w : List ℕ) → is_some (c
       (ap Ok same))))))))
 
 -- A line is read as an entry exactly if it says it.
-pub entry_says : (codes : ℕ) (names : List (List ℕ)) → Named names → list_all writable names ≡ true → (line : List ℕ) (r : Result Entry LineFault) → r ≡ entry_in (code_of codes names) line
-    → (e : Entry) → (r ≡ Ok e) ↔ SaysEntry (code_of codes names) line e
-entry_says codes names named written line r q e =
-    let code = code_of codes names in
-    let clean = word_lacks codes names named written in
-    (λ o. entry_said code clean line e (sym q ∙ o), λ s. q ∙ said_entry code clean line e s)
+pub entry_says : (code : List ℕ → Option ℕ) (line : List ℕ) (r : Result Entry LineFault) → r ≡ entry_in code line → (e : Entry) → (r ≡ Ok e) ↔ SaysEntry code line e
+entry_says code line r q e = (λ o. entry_said code line e (sym q ∙ o), λ s. q ∙ said_entry code line e s)

@@ -10,7 +10,7 @@ use Rattle.files.specs.declared.fault.FieldFault.TheVariants.{NotNumber, NotWord
 use Rattle.files.specs.declared.fault.LineFault.{LineFault}
 use Rattle.files.specs.declared.fault.LineFault.TheVariants.{TooLong, FieldCount, Field}
 use Rattle.files.specs.Faults.{first, unless, given, answered}
-use Rattle.files.specs.Parts.{fields}
+use Rattle.files.specs.Parts.{fields, Lacks}
 use Rattle.files.specs.Numbers.{is_number, value_of}
 use Rattle.files.specs.Words.{are_words, set_of, set_in}
 use Rattle.files.specs.Heads.{line_fits, field}
@@ -58,8 +58,9 @@ entry_in code line = answered (statement_fault code line) (entry_of code line)
 
 -- That a line says an entry, by its bytes, field after field.
 pub record SaysEntry (code : List ℕ → Option ℕ) (line : List ℕ) (e : Entry) : Type 0 where
-  -- the third field
+  -- the third field, in which no space stands
   pub words : List ℕ
+  pub one_field : Lacks 32 words
   -- the line is these fields, with single spaces between them
   pub fields : line ≡ join_with_byte 32 (
       -- 1: the first item

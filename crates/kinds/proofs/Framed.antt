@@ -11,7 +11,7 @@ use Rattle.points.proofs.Finite.{both_left, both_right, both_from, implies, impl
 use Rattle.points.proofs.Compare.{same_eq, says, compare_self, compare_converse, compose_compare, converse_converse}
 use Rattle.points.proofs.Tabled.{has_beyond}
 use Rattle.points.proofs.Marked.{Fitting as FittingMarks, ranks_pair, ranks_own}
-use Rattle.kinds.specs.Meaning.{Meaning, ExactlyOne, Laws, Involutive, Fits, Fitting, Realises}
+use Rattle.kinds.specs.Meaning.{Meaning, ExactlyOne, Laws, Partition, Involutive, Fits, Fitting, Realises}
 use Rattle.kinds.specs.Layouts.{Layout, marks_fit, fit, rank_on}
 
 -- something of each axis and each two marks on it, and the test of it
@@ -59,8 +59,6 @@ pub record Frame {V : Type 0} (m : Meaning V) (l : Layout) : Type 0 where
   pub make : (ℕ → ℕ → ℕ) → V
   pub made : (f : ℕ → ℕ → ℕ) (a s : ℕ) → a < l.axes → s < l.marks → number (make f) a s ≡ f a s
   pub same_codes : m.codes ≡ l.codes
-  -- values with the same marks are the same
-  pub determined : (u v : V) → ((a s : ℕ) → a < l.axes → s < l.marks → number u a s ≡ number v a s) → u ≡ v
   -- a value is lawful where its marks ascend
   pub ascends : (v : V) → m.lawful v → Sides l (λ a s t. compare (number v a s) (number v a t) ≡ compare s t)
   pub lawful : (v : V) → Sides l (λ a s t. compare (number v a s) (number v a t) ≡ compare s t) → m.lawful v
@@ -111,11 +109,15 @@ module _ {V : Type 0} (m : Meaning V) (l : Layout) (f : Frame m l) where
   self : (u : V) → m.lawful u → m.holds 0 u u
   self u hu = f.holds u u hu hu 0 f.some (λ a s t ha hs ht. f.ascends u hu a s t ha hs ht ∙ own_side a s t ha hs ht)
 
+  -- values with the same marks are the same
+  abbrev pub Determined : Type 0
+  Determined = (u v : V) → ((a s : ℕ) → a < l.axes → s < l.marks → f.number u a s ≡ f.number v a s) → u ≡ v
+
   -- where code 0 holds each mark is level with its like
-  only_self : (u v : V) → m.lawful u → m.lawful v → m.holds 0 u v → u ≡ v
-  only_self u v hu hv h =
+  only_self : Determined → (u v : V) → m.lawful u → m.lawful v → m.holds 0 u v → u ≡ v
+  only_self determined u v hu hv h =
       let k = f.seen u v hu hv 0 h in
-      f.determined u v (λ a s ha hs. says Prim.Native.Nat.Ordering.eq (f.number u a s) (f.number v a s) (k.1 a s s ha hs hs ∙ sym (own_side a s s ha hs hs) ∙ compare_self s))
+      determined u v (λ a s ha hs. says Prim.Native.Nat.Ordering.eq (f.number u a s) (f.number v a s) (k.1 a s s ha hs hs ∙ sym (own_side a s s ha hs hs) ∙ compare_self s))
 
   -- the converse of a code is a code, with the sides turned round
   turned_code : (c : ℕ) → c < l.codes → (m.converse c < l.codes) × Sides l (λ a s t. turned_round (l.side a c t s) ≡ l.side a (m.converse c) s t)
@@ -324,11 +326,12 @@ module _ {V : Type 0} (m : Meaning V) (l : Layout) (f : Frame m l) where
     some_codes = subst (λ (b : ℕ). 1 ≤ b) (sym f.same_codes) f.some;
     few_codes = subst (λ (b : ℕ). b ≤ 64) (sym f.same_codes) f.few;
     one = one;
-    occurs = occurs;
     self = self;
-    only_self = only_self;
     turned = turned;
   }
+
+  pub partition : Determined → Partition m
+  partition determined = record { occurs = occurs; only_self = only_self determined }
 
 -- three numbers that are codes
 abbrev Codes : Layout → ℕ → ℕ → ℕ → Type 0

@@ -21,17 +21,20 @@ pub record ExactlyOne {V : Type 0} (m : Meaning V) (u v : V) : Type 0 where
   pub that : m.holds (m.relation u v) u v
   pub only : (c : ℕ) → m.holds c u v → c ≡ m.relation u v
 
--- The duties of a kind. Its base relations are jointly exhaustive, pairwise disjoint, non-empty, and one of them is the identity: of two
--- lawful values exactly one holds (`one`), each holds of some lawful values (`occurs`), and code 0 holds of a value and itself (`self`)
--- and of no two others (`only_self`). The converse of a base relation holds the other way (`turned`).
+-- The duties of a kind. Its base relations are jointly exhaustive and pairwise disjoint: of two lawful values exactly one holds (`one`).
+-- Code 0 holds of a value and itself (`self`), and the converse of a base relation holds the other way (`turned`).
 pub record Laws {V : Type 0} (m : Meaning V) : Type 0 where
   pub some_codes : 1 ≤ m.codes
   pub few_codes : m.codes ≤ 64
   pub one : (u v : V) → m.lawful u → m.lawful v → ExactlyOne m u v
-  pub occurs : (c : ℕ) → c < m.codes → (u : V) × (v : V) × m.lawful u × m.lawful v × m.holds c u v
   pub self : (u : V) → m.lawful u → m.holds 0 u u
-  pub only_self : (u v : V) → m.lawful u → m.lawful v → m.holds 0 u v → u ≡ v
   pub turned : (u v : V) → m.lawful u → m.lawful v → (c : ℕ) → m.holds c u v → m.holds (m.converse c) v u
+
+-- What the base relations of a kind owe to be a partition scheme: none is empty, as each holds of some lawful values (`occurs`), and the
+-- identity is one of them, as code 0 holds of no two values that differ (`only_self`).
+pub record Partition {V : Type 0} (m : Meaning V) : Type 0 where
+  pub occurs : (c : ℕ) → c < m.codes → (u : V) × (v : V) × m.lawful u × m.lawful v × m.holds c u v
+  pub only_self : (u v : V) → m.lawful u → m.lawful v → m.holds 0 u v → u ≡ v
 
 -- The converse of a code is a code, and the converse of that is the code itself.
 pub record Involutive {V : Type 0} (m : Meaning V) : Type 0 where

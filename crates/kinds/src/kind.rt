@@ -1,6 +1,6 @@
 // The trait of a kind of item.
 ghost use Rattle.std.specs.Prelude.{◌≡◌, ℕ, ◌<◌, ◌≤◌, Bool, List, length, Decides, slice_index_or};
-ghost use Rattle.kinds.specs.Meaning.{Meaning, Laws, Involutive, Fits, Fitting, Realises, Realisation};
+ghost use Rattle.kinds.specs.Meaning.{Meaning, Laws, Partition, Involutive, Fits, Fitting, Realises, Realisation};
 ghost use Rattle.kinds.specs.Pages.{Written};
 
 /// A kind of item: the values that items may have, and the base relations between them. A base relation is told by its code.
@@ -68,8 +68,7 @@ pub trait Kind {
     /// The codes are those that are meant.
     ghost counted: { CODES ≡ meaning.codes };
 
-    /// Exactly one base relation holds; each holds of some values; code 0 from a value to itself, and to no other; the converse the other
-    /// way.
+    /// Exactly one base relation holds; code 0 from a value to itself; the converse the other way.
     ghost lawful: { Laws meaning };
 
     /// The converse of the converse is the base relation itself.
@@ -80,4 +79,9 @@ pub trait Kind {
 
     /// The values that are written have the scenario.
     ghost realises: { Realisation meaning values };
+}
+
+/// A kind whose base relations are a partition scheme: none is empty, and code 0 is the identity.
+pub trait Scheme: Kind {
+    ghost partition: { Partition Self.Kind.meaning };
 }

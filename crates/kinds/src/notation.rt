@@ -6,7 +6,7 @@ ghost use Rattle.kinds.specs.Words.{read, writable, Unambiguous, Named};
 use crate::kind::Kind;
 
 /// How a kind is written in files and reports: its letter, and the words of its base relations in the order of their codes.
-pub trait Notation: Kind {
+pub trait Notation {
     /// The letter, as a byte.
     ghost initial: { ℕ };
 
@@ -26,15 +26,18 @@ pub trait Notation: Kind {
     fn code(word: &[u8]) -> Option<u8>
         ensures { result ≡ read words word.now };
 
-    /// Each base relation has a word.
-    ghost worded: { length words ≡ Self.Kind.meaning.codes };
-
-    /// A line of a file can hold each word.
-    ghost written: { list_all writable words ≡ true };
-
     /// No two words are alike.
     ghost unambiguous: { Unambiguous words };
+}
+
+/// A kind whose notation is whole, so that files can say each of its base relations.
+pub trait WholeNotation: Kind + Notation {
+    /// Each base relation has a word, and no other number has one.
+    ghost worded: { length Self.Notation.words ≡ Self.Kind.meaning.codes };
+
+    /// A line of a file can hold each word.
+    ghost written: { list_all writable Self.Notation.words ≡ true };
 
     /// A text is read as a code exactly if it is the code's word.
-    ghost named: { Named words };
+    ghost named: { Named Self.Notation.words };
 }

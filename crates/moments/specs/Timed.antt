@@ -1,12 +1,13 @@
 -- Moments are one mark on one line.
-use Rattle.std.specs.Prelude.{◌≡◌, ℕ, zero, suc, ◌<◌, refl}
+use Rattle.std.specs.Prelude.{◌≡◌, ℕ, zero, suc, ◌<◌, ◌≤◌, [], ◌∷◌, refl}
 use Rattle.std.proofs.Common.{ap, arith, not-suc-le-zero, le_of_suc-le-suc}
 use Prim.Native.Nat.{Ordering, compare}
+use Rattle.std.proofs.lemmas.List.{get_or_past}
 use Rattle.points.proofs.Compare.{said, says, compare_self}
 use Rattle.moments.specs.declared.Moment.{Moment}
-use Rattle.kinds.specs.Meaning.{Realisation}
+use Rattle.kinds.specs.Meaning.{Partition, Realisation}
 use Rattle.moments.specs.Moments.{coded, code, moments, line, moment}
-use Rattle.kinds.proofs.Framed.{Frame, realises}
+use Rattle.kinds.proofs.Framed.{Frame, partition, realises}
 
 coded_code : (o : Ordering) → o ≡ coded (code o)
 coded_code Ordering.lt = refl
@@ -18,6 +19,10 @@ code_below Ordering.lt = omega arith
 code_below Ordering.eq = omega arith
 code_below Ordering.gt = omega arith
 
+-- a number that is no code has two moments at the same time
+pub coded_beyond : (c : ℕ) → 3 ≤ c → coded c ≡ Ordering.eq
+coded_beyond c h = get_or_past (Ordering.eq ∷ Ordering.lt ∷ Ordering.gt ∷ []) c Ordering.eq h
+
 -- the moment with this number
 abbrev at_number : ℕ → Moment
 at_number k = record { at = k }
@@ -28,7 +33,6 @@ timed = record {
   make = λ f. at_number (f 0 0);
   made = only;
   same_codes = refl;
-  determined = λ u v e. ap at_number (e 0 0 (omega arith) (omega arith));
   ascends = λ v h a s t ha hs ht. alone v s t hs ht;
   lawful = λ v h. tt;
   seen = λ u v hu hv c h. (h.0, λ a s t ha hs ht. said (coded c) u.at v.at h.1);
@@ -51,6 +55,11 @@ timed = record {
     alone v zero zero hs ht = compare_self v.at
     alone v zero (suc t) hs ht = absurd (not-suc-le-zero (le_of_suc-le-suc ht))
     alone v (suc s) t hs ht = absurd (not-suc-le-zero (le_of_suc-le-suc hs))
+
+-- each of = < > holds of some moments, and = of no two that differ
+pub moments_partition : Partition moments
+unfolding timed
+moments_partition = partition moments line timed (λ u v e. ap at_number (e 0 0 (omega arith) (omega arith)))
 
 -- counting the items before realises a scenario of moments
 pub moments_realise : Realisation moments moment

@@ -6,12 +6,12 @@ ghost use Rattle.std.specs.Fmt.{decimal};
 ghost use Rattle.kinds.specs.Layouts.{fit};
 ghost use Rattle.moments.specs.Moments.{moment_words, moments, line as line_layout, moment};
 ghost use Rattle.kinds.proofs.Framed.{laws};
-ghost use Rattle.moments.specs.Timed.{timed, moments_realise};
+ghost use Rattle.moments.specs.Timed.{timed, moments_partition, moments_realise};
 ghost use Rattle.kinds.proofs.Framed;
 ghost use Rattle.kinds.proofs.Worded;
 
-use kinds::kind::Kind;
-use kinds::notation::Notation;
+use kinds::kind::{Kind, Scheme};
+use kinds::notation::{Notation, WholeNotation};
 use kinds::table::{Row, look_up};
 use points::axis::{Axis, Order};
 use points::set::contains;
@@ -105,18 +105,16 @@ impl Kind for Moments {
     }
 }
 
+impl Scheme for Moments {
+    ghost partition = { moments_partition };
+}
+
 impl Notation for Moments {
     ghost initial = { 77 };
 
     ghost words = { moment_words };
 
-    ghost worded = { refl };
-
-    ghost written = { refl };
-
     ghost unambiguous = { Worded.unambiguous moment_words tt };
-
-    ghost named = { Worded.named moment_words (Worded.unambiguous moment_words tt) };
 
     // The byte of the format.
     fn letter() -> u8 {
@@ -141,6 +139,14 @@ impl Notation for Moments {
             _ => None,
         }
     }
+}
+
+impl WholeNotation for Moments {
+    ghost worded = { refl };
+
+    ghost written = { refl };
+
+    ghost named = { Worded.named moment_words (Worded.unambiguous moment_words tt) };
 }
 
 /// The number. Nothing derives it: each type is printed in its own way.

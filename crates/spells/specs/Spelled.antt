@@ -1,18 +1,18 @@
 -- Spells are two marks on one line.
-use Rattle.std.specs.Prelude.{◌≡◌, ℕ, zero, suc, ◌<◌, Bool, ◌&&◌, T, map, get_or, slice_index_or, refl}
+use Rattle.std.specs.Prelude.{◌≡◌, ℕ, zero, suc, ◌<◌, ◌≤◌, Bool, ◌&&◌, T, map, get_or, slice_index_or, refl}
 use Rattle.std.proofs.Common.{sym, ap, ap₂, ◌∙◌, subst, arith, not-suc-le-zero, le_of_suc-le-suc}
 use Prim.Native.Nat.{Ordering, compare}
-use Rattle.std.proofs.lemmas.List.{get_or-map}
+use Rattle.std.proofs.lemmas.List.{get_or-map, get_or_past}
 use Rattle.points.specs.Points.{Says, compose, same}
 use Rattle.points.proofs.Finite.{both_left, both_right, both_from, implies, implied, every, every_at}
 use Rattle.points.proofs.Compare.{said, says, same_eq, compare_lt, compare_gt, compare_self, compose_compare}
-use Rattle.kinds.specs.Meaning.{Realisation}
-use Rattle.kinds.proofs.Framed.{Frame, realises}
+use Rattle.kinds.specs.Meaning.{Partition, Realisation}
+use Rattle.kinds.proofs.Framed.{Frame, partition, realises}
 use Rattle.spells.specs.declared.spell.Spell.{Spell}
 use Rattle.spells.specs.declared.spell.Relation.{Relation}
 use Rattle.spells.specs.declared.spell.Relation.TheVariants.{Equals, Before, After, Meets, MetBy, Overlaps, OverlappedBy, Starts, StartedBy, During, Contains, Finishes, FinishedBy}
 use Rattle.spells.specs.Relations.{Lawful, Holds, relations, coded, code, by_ends, related, Ends, ends}
-use Rattle.spells.specs.Spells.{spells, pick, level, timeline, spell}
+use Rattle.spells.specs.Spells.{spells, pick, level, side, timeline, spell}
 
 -- what the four comparisons of a relation say
 abbrev AllSay : Ends → Spell → Spell → Type 0
@@ -141,6 +141,16 @@ by_marks u v q x y z w a zero (suc t) = y
 by_marks u v q x y z w a (suc s) zero = z
 by_marks u v q x y z w a (suc s) (suc t) = w
 
+-- a number that is no code says nothing
+pub side_beyond : (c s t : ℕ) → 13 ≤ c → side c s t ≡ Ordering.eq
+side_beyond c s t h = ap (λ (q : Ends). pick q s t) (get_or_past (map ends relations) c level h) ∙ level_side s t
+  where
+    level_side : (s t : ℕ) → pick level s t ≡ Ordering.eq
+    level_side zero zero = refl
+    level_side zero (suc t) = refl
+    level_side (suc s) zero = refl
+    level_side (suc s) (suc t) = refl
+
 -- the spell with these two ends
 abbrev from_to : ℕ → ℕ → Spell
 from_to x y = record { start = x; end = y }
@@ -151,7 +161,6 @@ spelled = record {
   make = λ f. from_to (f 0 0) (f 0 1);
   made = made;
   same_codes = refl;
-  determined = λ u v e. ap₂ from_to (e 0 0 (omega arith) (omega arith)) (e 0 1 (omega arith) (omega arith));
   ascends = λ v h a s t ha hs ht. ascends v h a s t hs ht;
   lawful = λ v h. says Prim.Native.Nat.Ordering.lt v.start v.end (h 0 0 1 (omega arith) (omega arith) (omega arith));
   seen = λ u v hu hv c h.
@@ -201,6 +210,11 @@ spelled = record {
     ascends v h a zero (suc (suc t)) hs ht = absurd (not-suc-le-zero (le_of_suc-le-suc (le_of_suc-le-suc ht)))
     ascends v h a (suc zero) (suc (suc t)) hs ht = absurd (not-suc-le-zero (le_of_suc-le-suc (le_of_suc-le-suc ht)))
     ascends v h a (suc (suc s)) t hs ht = absurd (not-suc-le-zero (le_of_suc-le-suc (le_of_suc-le-suc hs)))
+
+-- each of the thirteen relations holds of some spells, and `eq` of no two that differ
+pub spells_partition : Partition spells
+unfolding spelled
+spells_partition = partition spells timeline spelled (λ u v e. ap₂ from_to (e 0 0 (omega arith) (omega arith)) (e 0 1 (omega arith) (omega arith)))
 
 -- counting the starts and ends before realises a scenario of spells
 pub spells_realise : Realisation spells spell

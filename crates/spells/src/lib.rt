@@ -5,12 +5,12 @@ ghost use Rattle.std.specs.Prelude.{refl};
 ghost use Rattle.kinds.specs.Layouts.{fit};
 ghost use Rattle.spells.specs.Spells.{spells as spell_meaning, timeline as timeline_layout, spell as spell_at, spell_words, spells};
 ghost use Rattle.kinds.proofs.Framed.{laws};
-ghost use Rattle.spells.specs.Spelled.{spelled, spells_realise};
+ghost use Rattle.spells.specs.Spelled.{spelled, spells_partition, spells_realise};
 ghost use Rattle.kinds.proofs.Framed;
 ghost use Rattle.kinds.proofs.Worded;
 
-use kinds::kind::Kind;
-use kinds::notation::Notation;
+use kinds::kind::{Kind, Scheme};
+use kinds::notation::{Notation, WholeNotation};
 use kinds::table::look_up;
 use points::set::contains;
 use spell::{Spell, relate};
@@ -73,18 +73,16 @@ impl Kind for Spells {
     }
 }
 
+impl Scheme for Spells {
+    ghost partition = { spells_partition };
+}
+
 impl Notation for Spells {
     ghost initial = { 83 };
 
     ghost words = { spell_words };
 
-    ghost worded = { refl };
-
-    ghost written = { refl };
-
     ghost unambiguous = { Worded.unambiguous spell_words tt };
-
-    ghost named = { Worded.named spell_words (Worded.unambiguous spell_words tt) };
 
     // The byte of the format.
     fn letter() -> u8 {
@@ -129,4 +127,12 @@ impl Notation for Spells {
             _ => None,
         }
     }
+}
+
+impl WholeNotation for Spells {
+    ghost worded = { refl };
+
+    ghost written = { refl };
+
+    ghost named = { Worded.named spell_words (Worded.unambiguous spell_words tt) };
 }
