@@ -1,5 +1,5 @@
 -- A call of a closed sheet, or of either state, is carried out as the model has it.
-use Rattle.std.proofs.Common.{◌≡◌, ℕ, ◌+◌, ◌<◌, ◌≤◌, Bool, length, take, get_or, List, [], ◌∷◌, ◌++◌, Ok, Err, Result, None, Some, Option, IfOk, sym, refl, ap, ◌∙◌, subst}
+use Rattle.std.proofs.Common.{◌≡◌, ℕ, ◌+◌, ◌<◌, ◌≤◌, Bool, length, take, get_or, List, [], ◌∷◌, ◌++◌, Ok, Err, Result, None, Some, IfOk, sym, refl, ap, ◌∙◌, subst}
 use Rattle.std.proofs.lemmas.List.{take_more, take_all}
 use Rattle.kinds.specs.Meaning.{Meaning}
 use Rattle.kinds.specs.declared.kind.Kind.{Ghosts as Kinds}
@@ -7,8 +7,7 @@ use Rattle.tallies.specs.Joins.{Joining}
 use Rattle.tallies.specs.declared.claim.Claim.{Claim}
 use Rattle.tallies.specs.declared.tally.Tally.{Ghosts as Tallies}
 use Rattle.tallies.specs.declared.tally.Joins.{Ghosts as Joinings}
-use Rattle.rules.specs.declared.row.Row.{Row}
-use Rattle.rules.specs.Steps.{Rules, Position, advance, taken}
+use Rattle.rules.specs.Steps.{Rules, taken}
 use Rattle.rules.specs.Soundness.{rules}
 use Rattle.search.specs.Closed.{rows_of, position_of}
 use Rattle.statements.specs.declared.fault.Fault.{Fault}
@@ -22,7 +21,7 @@ use Rattle.runs.specs.declared.answer.Answer.{Answer}
 use Rattle.runs.specs.declared.answer.Answer.TheVariants.{Refused, Took}
 use Rattle.runs.specs.declared.state.State.{State}
 use Rattle.runs.specs.declared.state.State.TheVariants.{Closing}
-use Rattle.runs.specs.Models.{Model, closed, verdict, next, after}
+use Rattle.runs.specs.Models.{Model, next, after}
 use Rattle.runs.specs.Answers.{Showing, AnswersCall, AnswersScript}
 use Rattle.runs.specs.States.{closed_view, Views, Carries}
 
@@ -31,39 +30,17 @@ module _ {A B V C : Type 0} {k : Kinds A V} {t : Tallies B C} {g : Joinings B C}
   pub carried_search : (s s' : Closed A B V C k t g) (steps took : ℕ) → first_fault (search_checks steps) ≡ None
       → Searched (rules m fit j at_most) s.sheet s'.sheet steps took → (so_far asked : ℕ) → Carries {k = k} {t = t} {j = g} m values (rules m fit j at_most) (closed_view s so_far asked) (Search steps) (Closing s') (Took took)
   carried_search s s' steps took pass found so_far asked =
-      let n = s.sheet.items in
-      let rows = rows_of s.sheet in
-      let at : Position = position_of s.sheet in
       let further : ℕ = taken (rules m fit j at_most) s.sheet.items (rows_of s.sheet) steps (position_of s.sheet) in
-      let good : Model = closed s.sheet.items (rows_of s.sheet) (advance (rules m fit j at_most) s.sheet.items (rows_of s.sheet) steps (position_of s.sheet)) (so_far + further) (asked + steps) in
-      let moved : good ≡ closed_view s' (so_far + further) (asked + steps) =
-      ap (λ (z : ℕ). closed z (rows_of s.sheet) (advance (rules m fit j at_most) s.sheet.items (rows_of s.sheet) steps (position_of s.sheet)) (so_far + further) (asked + steps)) (sym found.parts.same_items)
-      ∙ ap (λ (z : List Row). closed s'.sheet.items z (advance (rules m fit j at_most) s.sheet.items (rows_of s.sheet) steps (position_of s.sheet)) (so_far + further) (asked + steps)) (sym found.parts.same_rows)
-      ∙ ap (λ (z : Position). closed s'.sheet.items (rows_of s'.sheet) z (so_far + further) (asked + steps)) (sym found.moved) in
-      record {
-        answers = ap Took found.count ∙ ap (λ (o : Option Fault). verdict {A = Answer V C} o (Took further) Refused) (sym pass);
-        views = (
-          so_far + further,
-          asked + steps,
-          ap (λ (o : Option Fault). verdict {A = Model} o good (λ _. closed_view s so_far asked)) pass ∙ moved,
-        );
-      }
+      let items = found.parts.same_items in
+      let rows = found.parts.same_rows in
+      let moved = found.moved in
+      let count = found.count in
+      record { answers = rw pass (ap Took count); views = (so_far + further, asked + steps, rw pass cc) }
 
   -- a refused search
   pub refused_search : (s s' : Closed A B V C k t g) (steps : ℕ) (f : Fault) → first_fault (search_checks steps) ≡ Some f → s' ≡ s
       → (so_far asked : ℕ) → Carries {k = k} {t = t} {j = g} m values (rules m fit j at_most) (closed_view s so_far asked) (Search steps) (Closing s') (Refused f)
-  refused_search s s' steps f fail same so_far asked =
-      let further : ℕ = taken (rules m fit j at_most) s.sheet.items (rows_of s.sheet) steps (position_of s.sheet) in
-      let good : Model = closed s.sheet.items (rows_of s.sheet) (advance (rules m fit j at_most) s.sheet.items (rows_of s.sheet) steps (position_of s.sheet)) (so_far + further) (asked + steps) in
-      record {
-        answers = ap (λ (o : Option Fault). verdict {A = Answer V C} o (Took further) Refused) (sym fail);
-        views = (
-          so_far,
-          asked,
-          ap (λ (o : Option Fault). verdict {A = Model} o good (λ _. closed_view s so_far asked)) fail
-              ∙ sym (ap (λ (z : Closed A B V C k t g). closed_view z so_far asked) same),
-        );
-      }
+  refused_search s s' steps f fail same so_far asked = record { answers = rw fail refl; views = (so_far, asked, rw fail cc) }
 
   pub carried_show : (s : Closed A B V C k t g) (places : ℕ) (a : Answer V C)
       → Showing m values (rules m fit j at_most) s.sheet.items (rows_of s.sheet) (position_of s.sheet) places a → (so_far asked : ℕ) → Carries {k = k} {t = t} {j = g} m values (rules m fit j at_most) (closed_view s so_far asked) (Show places) (Closing s) a
