@@ -1,5 +1,5 @@
 -- A call of a closed sheet, or of either state, is carried out as the model has it.
-use Rattle.std.proofs.Common.{◌≡◌, ℕ, ◌+◌, ◌<◌, ◌≤◌, Bool, length, take, get_or, List, [], ◌∷◌, ◌++◌, Ok, Err, Result, None, Some, IfOk, sym, refl, ap, ◌∙◌, subst}
+use Rattle.std.proofs.Common.{◌≡◌, ℕ, ◌+◌, ◌<◌, ◌≤◌, Bool, length, take, get_or, List, [], ◌∷◌, ◌++◌, Ok, Err, Result, None, Some, IfOk, refl, ap}
 use Rattle.std.proofs.lemmas.List.{take_more, take_all}
 use Rattle.kinds.specs.Meaning.{Meaning}
 use Rattle.kinds.specs.declared.kind.Kind.{Ghosts as Kinds}
@@ -50,7 +50,7 @@ module _ {A B V C : Type 0} {k : Kinds A V} {t : Tallies B C} {g : Joinings B C}
   pub any_view : (s : Closed A B V C k t g) (c : Call) (state : State A B V C k t g) (a : Answer V C)
       → ((steps asked : ℕ) → Carries {k = k} {t = t} {j = g} m values (rules m fit j at_most) (closed_view s steps asked) c state a)
       → (x : Model) → Views {k = k} {t = t} {j = g} (Closing s) x → Carries {k = k} {t = t} {j = g} m values (rules m fit j at_most) x c state a
-  any_view s c state a h x v = subst (λ (z : Model). Carries {k = k} {t = t} {j = g} m values (rules m fit j at_most) z c state a) (sym v.2) (h v.0 v.1)
+  any_view s c state a h x v = rw v.2 (h v.0 v.1)
 
   pub any_result : {E : Type 0} (s : Closed A B V C k t g) (c : Call) (u : Result (State A B V C k t g × Answer V C) E)
       → IfOk u (λ p. (steps asked : ℕ) → Carries m values (rules m fit j at_most) (closed_view s steps asked) c p.0 p.1)
@@ -89,15 +89,12 @@ reaches_more m values r x script i d answers answers' a state state' l so_far on
     let more = take_more script i d l in
     let carries = one (after m r x (take i script)) so_far.views in
     record {
-      views = subst (λ (z : Model). Views state' z) (sym (ap (after m r x) more ∙ after_push m values r x (take i script) (get_or script i d))) carries.views;
-      answered = subst (λ (z : List Call). AnswersScript m values r x z answers') (sym more)
-          (subst (λ (z : List (Answer _ _)). AnswersScript m values r x (take i script ++ (get_or script i d ∷ [])) z) (sym e)
-          (answers_push m values r x (take i script) answers (get_or script i d) a so_far.answered carries.answers));
+      views = rw (more, after_push m values r x (take i script) (get_or script i d)) carries.views;
+      answered = rw (more, e) (answers_push m values r x (take i script) answers (get_or script i d) a so_far.answered carries.answers);
     }
 
 -- At the end of the script.
 pub reached_end : {A B V C : Type 0} {k : Kinds A V} {t : Tallies B C} {j : Joinings B C} (m : Meaning V) (values : ℕ → List ℕ → ℕ → V) (r : Rules C)
     (x : Model) (script : List Call) (i : ℕ) (answers : List (Answer V C)) (state : State A B V C k t j) → length script ≤ i
     → Reaches m values r x (take i script) answers state → AnswersScript m values r x script answers
-reached_end m values r x script i answers state l h =
-    subst (λ (z : List Call). AnswersScript m values r x z answers) (take_all i script l) h.answered
+reached_end m values r x script i answers state l h = rw (take_all i script l) at h.answered
