@@ -36,7 +36,7 @@ digits_index b p a pos low long =
 pub past_one : (b p m : ℕ) → past b p p m ≡ m + 1
 past_one b p m =
     let z : p - p ≡ 0 = omega arith in
-    ap (λ (w : ℕ). (m / b ^ w + 1) * b ^ w) z ∙ ap (λ (w : ℕ). (m / w + 1) * w) (pow-zero b) ∙ mul-one (m / 1 + 1) ∙ ap (λ (w : ℕ). w + 1) (div-one m)
+    rw (z, pow-zero b, div-one m) (mul-one (m + 1))
 
 -- The number without its last digits is that of the first q codes.
 index_take : (b q : ℕ) (a : List ℕ) → Below b a → q ≤ length a → index b a / b ^ (length a - q) ≡ index b (take q a)
@@ -142,18 +142,15 @@ past_rise b i a h l =
 write_at : (a : List ℕ) (i v : ℕ) → i < length a → set (take (suc i) a ++ zeros (length a - suc i)) i v ≡ take i a ++ (v ∷ zeros (length a - suc i))
 write_at a i v l =
     let r : ℕ = length a - suc i in
-    ap (λ (z : List ℕ). set (z ++ zeros r) i v) (take-suc a i 0 l)
-    ∙ ap (λ (z : List ℕ). set z i v) (append_assoc (take i a) (get_or a i 0 ∷ []) (zeros r))
-    ∙ set_at (take i a) (get_or a i 0) (zeros r) v i (length-take-le i a (omega arith))
+    rw (take-suc a i 0 l, append_assoc (take i a) (get_or a i 0 ∷ []) (zeros r)) (set_at (take i a) (get_or a i 0) (zeros r) v i (length-take-le i a (omega arith)))
 
 zero_at : (a : List ℕ) (i : ℕ) → i < length a → take i a ++ (0 ∷ zeros (length a - suc i)) ≡ take i a ++ zeros (length a - i)
-zero_at a i l = let e : suc (length a - suc i) ≡ length a - i = omega arith in ap (λ (z : ℕ). take i a ++ zeros z) e
+zero_at a i l = let e : suc (length a - suc i) ≡ length a - i = omega arith in rw (sym e) refl
 
 read_at : (a : List ℕ) (i : ℕ) → i < length a → get_or (take (suc i) a ++ zeros (length a - suc i)) i 0 ≡ get_or a i 0
 read_at a i l =
-    ap (λ (z : List ℕ). get_or (z ++ zeros (length a - suc i)) i 0) (take-suc a i 0 l)
-    ∙ ap (λ (z : List ℕ). get_or z i 0) (append_assoc (take i a) (get_or a i 0 ∷ []) (zeros (length a - suc i)))
-    ∙ get_or_at (take i a) (get_or a i 0) (zeros (length a - suc i)) 0 i (length-take-le i a (omega arith))
+    rw (take-suc a i 0 l, append_assoc (take i a) (get_or a i 0 ∷ []) (zeros (length a - suc i)))
+    (get_or_at (take i a) (get_or a i 0) (zeros (length a - suc i)) 0 i (length-take-le i a (omega arith)))
 
 -- A front with zeros after it has codes only.
 pub below_front : (b i r : ℕ) (a : List ℕ) → 0 < b → Below b a → Below b (take i a ++ zeros r)
@@ -176,11 +173,10 @@ module _ (b q : ℕ) (a : List ℕ) (low : Below b a) (within : q ≤ length a) 
       let s : suc j - 1 ≡ j = omega arith in
       let r : get_or now (suc j - 1) 0 ≡ get_or a j 0 = rw (s, e) (read_at a j l) in
       let w : set now (suc j - 1) (get_or now (suc j - 1) 0 + 1) ≡ take j a ++ ((get_or a j 0 + 1) ∷ zeros (length a - suc j)) =
-      ap (λ (z : ℕ). set now (suc j - 1) (z + 1)) r ∙ ap (λ (z : ℕ). set now z (get_or a j 0 + 1)) s
-      ∙ ap (λ (z : List ℕ). set z j (get_or a j 0 + 1)) e ∙ write_at a j (get_or a j 0 + 1) l in
+      rw (r, s, e) (write_at a j (get_or a j 0 + 1) l) in
       let lt' : get_or a j 0 + 1 < b = omega (arith, r, lt) in (
-        ap (index b) w ∙ past_rise b j a low l ∙ sym g,
-        subst (Below b) (sym w)
+        rw w (past_rise b j a low l ∙ sym g),
+        rw w
             (All-append (λ c. c < b) (take j a) ((get_or a j 0 + 1) ∷ zeros (length a - suc j)) (All-take (λ c. c < b) j a low)
             (lt', below_zeros b (length a - suc j) (omega arith))),
       )
@@ -191,8 +187,8 @@ module _ (b q : ℕ) (a : List ℕ) (low : Below b a) (within : q ≤ length a) 
   turn_zero zero now p l e = absurd (omega arith)
   turn_zero (suc j) now p l e =
       let s : suc j - 1 ≡ j = omega arith in
-      let r : set now j 0 ≡ take j a ++ zeros (length a - j) = ap (λ (z : List ℕ). set z j 0) e ∙ write_at a j 0 l ∙ zero_at a j l in
-      subst (λ (z : ℕ). set now z 0 ≡ take z a ++ zeros (length a - z)) (sym s) r
+      let r : set now j 0 ≡ take j a ++ zeros (length a - j) = rw e (write_at a j 0 l ∙ zero_at a j l) in
+      rw s r
 
   -- It did not rise: either it is not one of the first q, or it is the last code.
   pub turn_carry : (i : ℕ) (now : List ℕ) → 0 < i → i ≤ length a → now ≡ take i a ++ zeros (length a - i) → (i ≤ q → goal q ≡ goal i)
@@ -201,7 +197,7 @@ module _ (b q : ℕ) (a : List ℕ) (low : Below b a) (within : q ≤ length a) 
   turn_carry (suc j) now p l e g top u =
       let s : suc j - 1 ≡ j = omega arith in
       let u' : j ≤ q = omega arith in
-      subst (λ (z : ℕ). goal q ≡ goal z) (sym s)
+      rw s
       (elim (eq-or-lt_of_le u') [
         | inl same ↦ ap goal (sym same)
         | inr lt ↦ (let r = turn_read (suc j) now p l e in
