@@ -1,5 +1,5 @@
 -- The cursor as codes: the number after all scenarios that share a prefix, by carrying.
-use Rattle.std.proofs.Common.{◌≡◌, ℕ, zero, suc, ◌+◌, ◌-◌, ◌*◌, ◌/◌, ◌^◌, ◌<◌, ◌≤◌, List, [], ◌∷◌, ◌++◌, length, get_or, take, drop, set, replicate, sym, refl, ap, ◌∙◌, subst, inl, inr, append_assoc, mul_assoc, mul_comm, add-mul, eq-or-lt_of_le, one-mul, pow-suc, zero-add, zero-mul, mul-one, div-one, arith, take-suc, pow-add}
+use Rattle.std.proofs.Common.{◌≡◌, ℕ, zero, suc, ◌+◌, ◌-◌, ◌*◌, ◌/◌, ◌^◌, ◌<◌, ◌≤◌, List, [], ◌∷◌, ◌++◌, length, get_or, take, drop, set, replicate, sym, refl, ap, ◌∙◌, subst, inl, inr, append_assoc, mul_assoc, mul_comm, add-mul, eq-or-lt_of_le, one-mul, pow-suc, zero-mul, mul-one, div-one, arith, take-suc, pow-add}
 use native.Mathlib.Nat.{pow-zero}
 use lib.Arith.{digits_div}
 use Rattle.std.proofs.lemmas.List.{length-append, length-drop, length-replicate, length-take-le, take-append-drop, set_at, get_or_at}
@@ -13,17 +13,17 @@ zeros r = replicate r 0
 
 -- The number of codes appended.
 pub index_append : (b : ℕ) (a e : List ℕ) → index b (a ++ e) ≡ index b a * b ^ length e + index b e
-index_append b [] e = sym (ap (λ (z : ℕ). z + index b e) (zero-mul (b ^ length e)) ∙ zero-add (index b e))
+index_append b [] e = omega (arith, zero-mul (b ^ length e))
 index_append b (c ∷ a) e =
     let h = index_append b a e in
     let p : c * b ^ length (a ++ e) ≡ (c * b ^ length a) * b ^ length e =
-    ap (λ (z : ℕ). c * b ^ z) (length-append a e) ∙ ap (λ (z : ℕ). c * z) (pow-add b (length a) (length e)) ∙ sym (mul_assoc c (b ^ length a) (b ^ length e)) in
+    rw (length-append a e, pow-add b (length a) (length e)) (sym (mul_assoc c (b ^ length a) (b ^ length e))) in
     let d = add-mul (c * b ^ length a) (index b a) (b ^ length e) in
     omega (arith, h, p, d)
 
 -- The number of one code.
 pub index_one : (b c : ℕ) → index b (c ∷ []) ≡ c
-index_one b c = ap (λ (z : ℕ). c * z + 0) (pow-zero b) ∙ (let m = mul-one c in omega (arith, m))
+index_one b c = rw (pow-zero b) (omega (arith, mul-one c))
 
 -- The scenario with the number of a is a.
 pub digits_index : (b p : ℕ) (a : List ℕ) → 0 < b → Below b a → length a ≡ p → digits b p (index b a) ≡ a
@@ -45,11 +45,11 @@ index_take b q a h l =
     ap (index b) (sym (take-append-drop q a)) ∙ index_append b (take q a) (drop q a) in
     let lt = index_lt b (drop q a) (All-drop (λ c. c < b) q a h) in
     let r : index b a / b ^ length (drop q a) ≡ index b (take q a) = ap (λ (z : ℕ). z / b ^ length (drop q a)) e ∙ digits_div (index b (take q a)) lt in
-    subst (λ (z : ℕ). index b a / b ^ z ≡ index b (take q a)) (length-drop q a) r
+    rw (length-drop q a) at r
 
 -- `past` by the number of the prefix.
 past_is : (b q : ℕ) (a : List ℕ) → Below b a → q ≤ length a → past b (length a) q (index b a) ≡ (index b (take q a) + 1) * b ^ (length a - q)
-past_is b q a h l = ap (λ (z : ℕ). (z + 1) * b ^ (length a - q)) (index_take b q a h l)
+past_is b q a h l = rw (index_take b q a h l) refl
 
 -- The codes of a scenario are the digits of its number.
 digits_same : (b : ℕ) (a : List ℕ) → Below b a → digits b (length a) (index b a) ≡ a
@@ -97,9 +97,7 @@ skips b q (c ∷ a) e h g l within from = (
 index_more : (b i : ℕ) (a : List ℕ) → i < length a → index b (take (suc i) a) ≡ index b (take i a) * b + get_or a i 0
 index_more b i a l =
     let one : b ^ 1 ≡ b = pow-suc b 0 ∙ ap (λ (z : ℕ). z * b) (pow-zero b) ∙ one-mul b in
-    ap (index b) (take-suc a i 0 l) ∙ index_append b (take i a) (get_or a i 0 ∷ [])
-    ∙ ap (λ (z : ℕ). index b (take i a) * z + index b (get_or a i 0 ∷ [])) one
-    ∙ ap (λ (z : ℕ). index b (take i a) * b + z) (index_one b (get_or a i 0))
+    rw (take-suc a i 0 l, index_append b (take i a) (get_or a i 0 ∷ []), one, index_one b (get_or a i 0)) refl
 
 -- Where the last code of a prefix is the last code of all, past it is past the prefix before it.
 past_carry : (b i : ℕ) (a : List ℕ) → Below b a → i < length a → b ≤ get_or a i 0 + 1
@@ -208,6 +206,4 @@ module _ (b q : ℕ) (a : List ℕ) (low : Below b a) (within : q ≤ length a) 
 
 -- The scenario numbered 1: zeros, and 1 in the last pair.
 pub index_second : (b p : ℕ) → index b (zeros p ++ (1 ∷ [])) ≡ 1
-index_second b p =
-    index_append b (zeros p) (1 ∷ []) ∙ ap (λ (z : ℕ). z * b ^ 1 + index b (1 ∷ [])) (index_zeros b p)
-    ∙ ap (λ (z : ℕ). z + index b (1 ∷ [])) (zero-mul (b ^ 1)) ∙ zero-add (index b (1 ∷ [])) ∙ index_one b 1
+index_second b p = rw (index_append b (zeros p) (1 ∷ []), index_zeros b p, index_one b 1) (omega (arith, zero-mul (b ^ 1)))
