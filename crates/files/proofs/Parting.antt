@@ -1,10 +1,10 @@
 -- A text that is cut at the first place of a byte.
-use Rattle.std.proofs.Common.{◌≡◌, ◌≢◌, ℕ, zero, suc, ◌+◌, ◌-◌, ◌<◌, ◌≤◌, false, eqb, List, [], ◌∷◌, ◌++◌, length, get_or, take, drop, Some, None, Option, sym, refl, ap, ◌∙◌, arith, take-append-drop, Bor, All, count_by, false-eqb}
+use Rattle.std.proofs.Common.{◌≡◌, ◌≢◌, ℕ, suc, ◌+◌, ◌-◌, ◌<◌, ◌≤◌, false, eqb, List, [], ◌∷◌, ◌++◌, length, get_or, take, drop, Some, None, Option, sym, refl, ap, ◌∙◌, subst, arith, take-append-drop, Bor, All, count_by, false-eqb}
 use Rattle.std.specs.Option.{unwrap_or}
 use Rattle.std.specs.List.{onto_first, join_with_byte, AllByRecursion}
 use Rattle.std.proofs.ByRecursion.{All-get_or}
-use Rattle.std.proofs.lemmas.List.{drop_more, take_rest}
-use Rattle.std.proofs.lemmas.List.Elements.{All-from_recursion, All-weaker}
+use Rattle.std.proofs.lemmas.List.{drop_more, get_or-take, length-take-le, take_rest}
+use Rattle.std.proofs.lemmas.List.Elements.{All-from_get_or, All-from_recursion, recursion_from_All, All-weaker}
 use Rattle.std.proofs.lemmas.List.Splits.{join_with_byte-slice_split, length-slice_split, slice_split_at, slice_split_none}
 use Rattle.std.proofs.lemmas.Bool.{eq-eqb, ne_eqb, cond-false, cond_both}
 use Rattle.files.specs.Parts.{parted, lines, Lacks, Split, left}
@@ -16,19 +16,13 @@ abbrev pub Whole : ℕ → List ℕ → List ℕ → Type 0
 Whole c text front = Lacks c text × (text ≡ front)
 
 pub lacks_all : (c : ℕ) (bs : List ℕ) → ((k : ℕ) → k < length bs → get_or bs k 0 ≢ c) → Lacks c bs
-lacks_all c [] h = tt
-lacks_all c (b ∷ bs) h = (h 0 (omega arith), lacks_all c bs (λ k l. h (suc k) (omega arith)))
-
-lacks_front : (c : ℕ) (bs : List ℕ) (n : ℕ) → n ≤ length bs → ((k : ℕ) → k < n → get_or bs k 0 ≢ c) → Lacks c (take n bs)
-lacks_front c bs zero h l = tt
-lacks_front c [] (suc n) h l = tt
-lacks_front c (b ∷ bs) (suc n) h l = (l 0 (omega arith), lacks_front c bs n (omega arith) (λ k lt. l (suc k) (omega arith)))
+lacks_all c bs h = recursion_from_All (λ b. b ≢ c) bs (All-from_get_or (λ b. b ≢ c) bs 0 h)
 
 -- a text at the place n of its first c, as `&text[..n]` and `&text[n + 1..]` are read
 pub cut_at : (c : ℕ) (bs : List ℕ) (n : ℕ) → n < length bs → ((k : ℕ) → k < n → get_or bs k 0 ≢ c) → get_or bs n 0 ≡ c
     → Cut c bs (take n bs) (take (length bs - (n + 1)) (drop (n + 1) bs))
 cut_at c bs n h l e = rw (take_rest bs (n + 1)) (
-  lacks_front c bs n (omega arith) l,
+  lacks_all c (take n bs) (λ k m. let within : k < n = omega (arith, m, length-take-le n bs (omega arith)) in subst (λ b. b ≢ c) (sym (get_or-take n bs k 0 within)) (l k within)),
   sym (take-append-drop n bs) ∙ ap (λ r. take n bs ++ r) (drop_more bs n 0 h ∙ ap (λ b. b ∷ drop (n + 1) bs) e),
 )
 

@@ -1,6 +1,7 @@
 -- A whole reading meets the first fault of its file, and loads the sheets before it.
 use Rattle.std.proofs.Common.{◌≡◌, ℕ, zero, suc, ◌+◌, ◌-◌, ◌<◌, true, false, List, [], ◌∷◌, ◌++◌, length, take, Some, None, Ok, Err, Option, Result, sym, refl, ap, ◌∙◌, subst, ⊎_elim, arith, ◌==◌, ◌||◌, length-drop, add-one}
 use Rattle.std.proofs.lemmas.Bool.{cases_Bool}
+use Rattle.std.proofs.lemmas.Option.{none-some, same_Some}
 use Rattle.rules.specs.declared.row.Row.{Row}
 use Rattle.files.specs.declared.fault.LineFault.{LineFault}
 use Rattle.files.specs.declared.fault.LineFault.TheVariants.{TooLong}
@@ -29,12 +30,6 @@ record Told (spell : Head → Spelling) (v : View) (r : Reading) : Type 0 where
 same_fault : (f g : SheetFault) → ◌≡◌ {A = Answer} (Err f) (Err g) → f ≡ g
 same_fault f g z = cc
 
-fault_same : (f g : SheetFault) → ◌≡◌ {A = Option SheetFault} (Some f) (Some g) → f ≡ g
-fault_same f g z = cc
-
-no_fault : {A : Type 0} (f : SheetFault) (x y : A) → ◌≡◌ {A = Option SheetFault} (Some f) None → x ≡ y
-no_fault f x y z = cc
-
 -- the sheet of a head's fault
 unfit_sheet : (p : Place) (r : Result Head LineFault) (f : SheetFault) → located p r ≡ Err f → f.place.sheet ≡ p.sheet
 unfit_sheet p (Ok h) f e = fault_is_none f (Some h) _ _ (sym e)
@@ -56,11 +51,11 @@ by_line : (s : Spelling) (items : ℕ) (p : Place) (rows : List Row) (l : List �
     → elim o [ Some g ↦ Some (record { place = onward p; fault = g }) | None ↦ body_fault s items (onward p) (rows ++ (row_in s l ∷ [])) ls ] ≡ Some f
     → (body_fault s items (onward p) (rows ++ (row_in s l ∷ [])) ls ≡ Some f → f.place.sheet ≡ p.sheet)
     → f.place.sheet ≡ p.sheet
-by_line s items p rows l ls f (Some g) e i = sym (ap (λ x. x.place.sheet) (fault_same _ f e))
+by_line s items p rows l ls f (Some g) e i = sym (ap (λ x. x.place.sheet) (same_Some _ f e))
 by_line s items p rows l ls f None e i = i e
 
 body_sheet : (s : Spelling) (items : ℕ) (p : Place) (rows : List Row) (ls : List (List ℕ)) (f : SheetFault) → body_fault s items p rows ls ≡ Some f → f.place.sheet ≡ p.sheet
-body_sheet s items p rows [] f e = no_fault f _ _ (sym e)
+body_sheet s items p rows [] f e = absurd (none-some f e)
 body_sheet s items p rows (l ∷ ls) f e = by_line s items p rows l ls f (line_fault s items rows l) e (λ d. body_sheet s items (onward p) (rows ++ (row_in s l ∷ [])) ls f d)
 
 -- a load of the head that waits, into a draft of its kind and tally
@@ -80,8 +75,8 @@ module _ (spell : Head → Spelling) (had : Head → Contents) (own : Own spell)
   told_err f e = record {
     fault = sym (in_turn spell own v b ∙ ap (after_head spell w) e);
     some = refl;
-    all = λ z. no_fault f _ _ z;
-    at = λ g z. omega (arith, ap (λ x. x.place.sheet) (fault_same f g z), head_fault_sheet v f b e);
+    all = λ z. absurd (none-some f (sym z));
+    at = λ g z. omega (arith, ap (λ x. x.place.sheet) (same_Some f g z), head_fault_sheet v f b e);
   }
 
   told_end : head_answer v ≡ Ok None → Told spell v (ended None)
@@ -89,7 +84,7 @@ module _ (spell : Head → Spelling) (had : Head → Contents) (own : Own spell)
     fault = sym (in_turn spell own v b ∙ ap (after_head spell w) e);
     some = refl;
     all = λ z. sym (sheet_end spell v b e);
-    at = λ g z. no_fault g _ _ (sym z);
+    at = λ g z. absurd (none-some g z);
   }
 
   module _ (h : Head) (e : head_answer v ≡ Ok (Some h)) where
@@ -115,11 +110,11 @@ module _ (spell : Head → Spelling) (had : Head → Contents) (own : Own spell)
     told_refused f g = record {
       fault = sym (in_turn spell own v b ∙ ap (after_head spell w) e ∙ ap (after_load spell u) g);
       some = refl;
-      all = λ z. no_fault f _ _ z;
+      all = λ z. absurd (none-some f (sym z));
       at = λ k z. omega (
         arith,
         sheet,
-        ap (λ x. x.place.sheet) (fault_same f k z),
+        ap (λ x. x.place.sheet) (same_Some f k z),
         body_sheet (spell h) h.size w.place [] (body w.ahead) f (sym (own_fault (spell h) w h fits waits owns) ∙ g),
       );
     }

@@ -4,4 +4,3 @@ pub mod Read
 pub mod Seen
 pub mod Settled
 pub mod Sights
-pub mod Spelled

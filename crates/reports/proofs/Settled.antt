@@ -1,5 +1,5 @@
 -- What the calls that settle a sheet answer.
-use Rattle.std.proofs.Common.{◌≡◌, ℕ, zero, suc, ◌+◌, ◌<◌, ◌≤◌, List, [], ◌∷◌, length, map, Ok, Err, Result, IfOk, Some, None, Option, vec_items, refl, ap, sym, ◌∙◌, subst, slice_index_or, true, arith}
+use Rattle.std.proofs.Common.{◌≡◌, ℕ, zero, suc, ◌+◌, ◌<◌, ◌≤◌, List, [], ◌∷◌, length, map, Ok, Err, Result, IfOk, Some, None, vec_items, refl, ap, sym, ◌∙◌, subst, slice_index_or, true, arith}
 use Rattle.std.specs.List.{range_with_len}
 use Rattle.std.proofs.lemmas.Bool.{le-leb}
 use Rattle.std.proofs.lemmas.List.{ext_get_or}
@@ -15,7 +15,6 @@ use Rattle.rules.specs.Costs.{of_rows, charge, cost}
 use Rattle.rules.specs.Steps.{Rules, Position, opening, advance, taken, searched}
 use Rattle.rules.specs.Soundness.{Settled, cost_by}
 use Rattle.rules.proofs.Costs.{charges_join}
-use Rattle.statements.specs.declared.fault.Fault.{Fault}
 use Rattle.statements.specs.Faults.{first_fault}
 use Rattle.statements.specs.Searches.{search_checks, show_checks, charge_checks}
 use Rattle.runs.specs.declared.call.Call.{Call}
@@ -23,11 +22,9 @@ use Rattle.runs.specs.declared.call.Call.TheVariants.{Close, Search, Show, Charg
 use Rattle.runs.specs.declared.answer.Sight.{Sight}
 use Rattle.runs.specs.declared.answer.Answer.{Answer}
 use Rattle.runs.specs.declared.answer.Answer.TheVariants.{Unmade, Refused, Done, Entered, Looked, Took, Shown, Charged}
-use Rattle.runs.specs.Models.{drafting, closed, verdict, next}
+use Rattle.runs.specs.Models.{drafting, closed, next}
 use Rattle.runs.specs.Answers.{SightOf, Showing, AnswersScript}
 use Rattle.runs.specs.Law.{At, OnClosed, SightLaw, Law, wanted}
-use Rattle.runs.specs.Told.{sight_in}
-use Rattle.std.specs.Option.{option_or}
 use Rattle.reports.specs.Found.{first_sight, charges_in}
 use Rattle.reports.specs.Account.{Account, account_at, account_of, AccountLaw, settling, Tells}
 
@@ -67,11 +64,11 @@ module _ {V C : Type 0} (m : Meaning V) (values : ℕ → List ℕ → ℕ → V
   charging n rows s steps asked p (suc k) [] low high w = absurd w
   charging n rows s steps asked p (suc k) (b ∷ bs) low high w =
       let c : C = charge r.joining rows (entry s.incumbent) p in
-      let is : b ≡ Charged c = w.0 ∙ ap (λ (o : Option Fault). verdict o (Charged c) Refused) (person_passes p low (omega arith)) in
+      let is : b ≡ Charged c = rw (person_passes p low (omega arith)) at w.0 in
       let rest : Charging n rows s (p + 1) k bs = charging n rows s steps asked (p + 1) k bs (omega arith) (omega arith) w.1 in
       record {
-        none = ap (λ (z : Answer V C). option_or (sight_in z) (first_sight bs)) is ∙ rest.none;
-        charges = ap (λ (z : Answer V C). charges_in (z ∷ bs)) is ∙ ap (λ (z : List C). c ∷ z) rest.charges;
+        none = rw is rest.none;
+        charges = rw is (ap (λ (z : List C). c ∷ z) rest.charges);
       }
 
   -- A show on a page of 12 places.
@@ -109,14 +106,11 @@ module _ {V C : Type 0} (m : Meaning V) (values : ℕ → List ℕ → ℕ → V
       → Told n rows s (a ∷ b ∷ c ∷ bs)
   told n rows s a b c bs t done took show charges =
       let listed = values_listed n rows s show.sight show.shows in
-      let all : charges_in (a ∷ b ∷ c ∷ bs) ≡ map (charge r.joining rows (entry s.incumbent)) (range_with_len 1 20) =
-      ap (λ (z : Answer V C). charges_in (z ∷ b ∷ c ∷ bs)) done ∙ ap (λ (z : Answer V C). charges_in (z ∷ c ∷ bs)) took
-      ∙ ap (λ (z : Answer V C). charges_in (z ∷ bs)) show.is ∙ charges.charges in
+      let all : charges_in (a ∷ b ∷ c ∷ bs) ≡ map (charge r.joining rows (entry s.incumbent)) (range_with_len 1 20) = rw (done, took, show.is) charges.charges in
       record {
         tells = record {
           sight = show.sight;
-          shown = ap (λ (z : Answer V C). option_or (sight_in z) (first_sight (b ∷ c ∷ bs))) done ∙ ap (λ (z : Answer V C). option_or (sight_in z) (first_sight (c ∷ bs))) took
-              ∙ ap (λ (z : Answer V C). option_or (sight_in z) (first_sight bs)) show.is;
+          shown = rw (done, took, show.is) refl;
           is = cc;
         };
         there = show.is;
@@ -126,9 +120,7 @@ module _ {V C : Type 0} (m : Meaning V) (values : ℕ → List ℕ → ℕ → V
   after_search : (n : ℕ) (rows : List Row) (k : ℕ) (cs : List Call) (bs : List (Answer V C)) → k ≤ 1000000
       → AnswersScript m values r (next m r (closed n rows (opening n) 0 0) (Search k)) cs bs
       → AnswersScript m values r (closed n rows (advance r n rows k (opening n)) (0 + taken r n rows k (opening n)) (0 + k)) cs bs
-  after_search n rows k cs bs h w =
-      subst (λ (o : Option Fault). AnswersScript m values r (verdict o (closed n rows (advance r n rows k (opening n)) (0 + taken r n rows k (opening n)) (0 + k)) (λ _. closed n rows (opening n) 0 0)) cs bs)
-      (steps_pass k h) w
+  after_search n rows k cs bs h w = rw (steps_pass k h) at w
 
   -- All answers.
   all_told : (n : ℕ) (rows : List Row) (k : ℕ) (answers : List (Answer V C)) → n ≤ 12 → k ≤ 1000000
@@ -140,7 +132,7 @@ module _ {V C : Type 0} (m : Meaning V) (values : ℕ → List ℕ → ℕ → V
   all_told n rows k (a ∷ b ∷ c ∷ bs) few h w =
       let s : Position = advance r n rows k (opening n) in
       let rest = after_search n rows k (Show 12 ∷ map Charge (range_with_len 1 20)) (c ∷ bs) h w.1.1 in
-      let took : b ≡ Took (taken r n rows k (opening n)) = w.1.0 ∙ ap (λ (o : Option Fault). verdict o (Took (taken r n rows k (opening n))) Refused) (steps_pass k h) in
+      let took : b ≡ Took (taken r n rows k (opening n)) = rw (steps_pass k h) at w.1.0 in
       told n rows s a b c bs (taken r n rows k (opening n)) w.0 took (showed n rows s c few rest.0)
       (charging n rows s (0 + taken r n rows k (opening n)) (0 + k) 1 20 bs (omega arith) (omega arith) rest.1)
 
@@ -153,9 +145,7 @@ module _ {V C : Type 0} (m : Meaning V) (values : ℕ → List ℕ → ℕ → V
   -- What is shown is as the law of runs has it.
   sight_law : (n : ℕ) (rows : List Row) (k : ℕ) (answers : List (Answer V C)) (sight : Sight V C) (wants : ℕ) → k ≤ 1000000
       → OnClosed (SightLaw m r sight wants) (next m r (closed n rows (opening n) 0 0) (Search k)) → SightLaw m r sight wants n rows (advance r n rows k (opening n))
-  sight_law n rows k answers sight wants h w =
-      subst (λ (o : Option Fault). OnClosed (SightLaw m r sight wants) (verdict o (closed n rows (advance r n rows k (opening n)) (0 + taken r n rows k (opening n)) (0 + k)) (λ _. closed n rows (opening n) 0 0)))
-      (steps_pass k h) w
+  sight_law n rows k answers sight wants h w = rw (steps_pass k h) at w
 
   -- The charges, as a list, join to the cost.
   charges_listed : Monoid r.joining → (n : ℕ) (rows : List Row) → Proper n rows → (f : ℕ → ℕ → ℕ)
@@ -177,7 +167,7 @@ module _ {V C : Type 0} (m : Meaning V) (values : ℕ → List ℕ → ℕ → V
       let shown = sight_law n rows k answers sight (wanted 2 (Close ∷ Search k ∷ Show 12 ∷ map Charge (range_with_len 1 20)) answers) h (law.shown 2 sight told.there) in
       record {
         each = length-map-range_with_len (values n s.incumbent) 0 n;
-        settled = λ other. subst (λ (a : Account V C). Settled m r n rows s (λ i. slice_index_or a.values i other) a.cost a.finished) told.tells.is (shown.settled other);
+        settled = λ other. subst (λ a. Settled m r n rows s (λ i. slice_index_or a.values i other) a.cost a.finished) told.tells.is (shown.settled other);
         below = λ y lawful. subst (λ (a : Account V C). r.at_most a.floor (cost_by m r.joining rows y) ≡ true) told.tells.is (shown.below y lawful);
         persons = length-map-range_with_len (charge r.joining rows (entry s.incumbent)) 1 20;
         charged = charges_listed monoid n rows proper (entry s.incumbent);

@@ -1,5 +1,5 @@
 -- The steps of the code are the steps of the search.
-use Rattle.std.proofs.Common.{◌≡◌, ℕ, zero, suc, ◌+◌, ◌-◌, ◌<◌, ◌≤◌, Bool, true, false, cond, leb, List, length, sym, refl, ap, ◌∙◌, subst, inl, inr, eq-or-lt_of_le, arith}
+use Rattle.std.proofs.Common.{◌≡◌, ℕ, zero, suc, ◌+◌, ◌-◌, ◌<◌, ◌≤◌, Bool, true, false, cond, leb, List, length, sym, refl, ◌∙◌, subst, inl, inr, eq-or-lt_of_le, arith}
 use Rattle.std.proofs.lemmas.Bool.{le-leb, lt-leb, cond-true, cond-false, cases_lt}
 use Rattle.points.specs.Scenarios.{pairs, entry}
 use Rattle.rules.specs.declared.row.Row.{Row}
@@ -35,41 +35,31 @@ module _ {C : Type 0} (r : Rules C) (n : ℕ) (rows : List Row) where
     here = digits_index r.codes (pairs n) e some low long
 
     shortest_is : shortest r n rows start ≡ q
-    shortest_is =
-        ap (λ (z : List ℕ). first_passing (refuted r n rows (cost r.joining rows (entry a)) z) (pairs n + 1) 0) here
-        ∙ ap (λ (z : C). first_passing (refuted r n rows z e) (pairs n + 1) 0) (sym is_best) ∙ sym is_first
+    shortest_is = rw (here, sym is_best) (sym is_first)
 
     step_is : step r n rows start ≡ cond (leb q (pairs n)) (position a (past r.codes (pairs n) q (index r.codes e))) (position e (index r.codes e + 1))
-    step_is =
-        ap (λ (z : ℕ). cond (leb z (pairs n)) (position a (past r.codes (pairs n) z (index r.codes e))) (position (looked_at r n start) (index r.codes e + 1))) shortest_is
-        ∙ ap (λ (z : List ℕ). cond (leb q (pairs n)) (position a (past r.codes (pairs n) q (index r.codes e))) (position z (index r.codes e + 1))) here
+    step_is = rw (shortest_is, here) refl
 
     -- A step past a refuted prefix, to the next number after all that share it.
     pub step_skips : q ≤ pairs n → (next : ℕ) → next ≡ past r.codes (pairs n) q (index r.codes e) → position a next ≡ step r n rows start
-    step_skips within next is =
-        ap (position a) is
-        ∙ sym (step_is ∙ cond-true (leb q (pairs n)) (position a (past r.codes (pairs n) q (index r.codes e))) (position e (index r.codes e + 1)) (le-leb q (pairs n) within))
+    step_skips within next is = rw (is, step_is, le-leb q (pairs n) within) refl
 
     -- A step to a scenario of which no prefix is refuted.
     pub step_holds : pairs n < q → (next : ℕ) → next ≡ past r.codes (pairs n) (pairs n) (index r.codes e) → position e next ≡ step r n rows start
-    step_holds beyond next is =
-        ap (position e) (is ∙ past_one r.codes (pairs n) (index r.codes e))
-        ∙ sym (step_is ∙ cond-false (leb q (pairs n)) (position a (past r.codes (pairs n) q (index r.codes e))) (position e (index r.codes e + 1)) (lt-leb q (pairs n) beyond))
+    step_holds beyond next is = rw (is, past_one r.codes (pairs n) (index r.codes e), step_is, lt-leb q (pairs n) beyond) refl
 
   -- One more step while the search goes on, and none once it has finished.
   turn_on : (k : ℕ) (s : Position) → s.cursor < total r n
       → (advance r n rows (suc k) s ≡ advance r n rows k (step r n rows s)) × (taken r n rows (suc k) s ≡ suc (taken r n rows k (step r n rows s)))
   turn_on k s l =
-      let going : finished r n s ≡ false = lt-leb (total r n) s.cursor l in (
-        cond-false (finished r n s) s (advance r n rows k (step r n rows s)) going,
-        cond-false (finished r n s) zero (suc (taken r n rows k (step r n rows s))) going,
-      )
+      let going : finished r n s ≡ false = lt-leb (total r n) s.cursor l in
+      (rw going refl, rw going refl)
 
   turn_off : (k : ℕ) (s : Position) → total r n ≤ s.cursor → (advance r n rows k s ≡ s) × (taken r n rows k s ≡ 0)
   turn_off zero s l = (refl, refl)
   turn_off (suc k) s l =
       let done : finished r n s ≡ true = le-leb (total r n) s.cursor l in
-      (cond-true (finished r n s) s (advance r n rows k (step r n rows s)) done, cond-true (finished r n s) zero (suc (taken r n rows k (step r n rows s))) done)
+      (rw done refl, rw done refl)
 
   -- After m of k steps from `start` the search is at s: what is left to do is done from s.
   pub record UnderWay (k m : ℕ) (start s : Position) : Type 0 where
@@ -81,12 +71,11 @@ module _ {C : Type 0} (r : Rules C) (n : ℕ) (rows : List Row) where
   under_way_more k m start s t u l room is =
       let j : k - m ≡ suc (k - (m + 1)) = omega arith in
       let one = turn_on (k - (m + 1)) s room in
-      let count : taken r n rows (k - m) s ≡ suc (taken r n rows (k - (m + 1)) t) =
-      ap (λ (i : ℕ). taken r n rows i s) j ∙ one.1 ∙ ap (λ (p : Position). suc (taken r n rows (k - (m + 1)) p)) (sym is) in
+      let count : taken r n rows (k - m) s ≡ suc (taken r n rows (k - (m + 1)) t) = rw (j, one.1, is) refl in
       let so_far = u.counts in
       record {
         few = omega arith;
-        leads = u.leads ∙ ap (λ (i : ℕ). advance r n rows i s) j ∙ one.0 ∙ ap (advance r n rows (k - (m + 1))) (sym is);
+        leads = u.leads ∙ rw (j, one.0, is) refl;
         counts = omega arith;
       }
 
@@ -101,28 +90,16 @@ module _ {C : Type 0} (r : Rules C) (n : ℕ) (rows : List Row) where
 pub in_parts : {C : Type 0} (r : Rules C) → InParts r
 in_parts r n rows zero l s =
     let z : zero + l ≡ l = omega arith in
-    let t : taken r n rows l s ≡ zero + taken r n rows l s = omega arith in
-    (ap (λ (i : ℕ). advance r n rows i s) z, ap (λ (i : ℕ). taken r n rows i s) z ∙ t)
+    (rw z refl, rw z (omega arith))
 in_parts r n rows (suc k) l s =
     let z : suc k + l ≡ suc (k + l) = omega arith in
     elim (cases_lt s.cursor (total r n)) [
       | inl going ↦ (let whole = turn_on r n rows (k + l) s going in
           let part = turn_on r n rows k s going in
-          let rest = in_parts r n rows k l (step r n rows s) in (
-            ap (λ (i : ℕ). advance r n rows i s) z ∙ whole.0 ∙ rest.0 ∙ ap (advance r n rows l) (sym part.0),
-            ap (λ (i : ℕ). taken r n rows i s) z ∙ whole.1 ∙ ap suc rest.1
-                ∙ suc_more (taken r n rows k (step r n rows s)) (taken r n rows l (advance r n rows k (step r n rows s)))
-                ∙ ap (λ (i : ℕ). i + taken r n rows l (advance r n rows k (step r n rows s))) (sym part.1)
-                ∙ ap (λ (p : Position). taken r n rows (suc k) s + taken r n rows l p) (sym part.0),
-          ))
+          let rest = in_parts r n rows k l (step r n rows s) in
+          (rw (z, whole.0, part.0) rest.0, rw (z, whole.1, part.1, part.0) (omega (arith, rest.1))))
       | inr done ↦ (let whole = turn_off r n rows (suc k + l) s done in
           let part = turn_off r n rows (suc k) s done in
-          let rest = turn_off r n rows l s done in (
-            whole.0 ∙ sym rest.0 ∙ ap (advance r n rows l) (sym part.0),
-            whole.1 ∙ sym (ap (λ (i : ℕ). i + taken r n rows l (advance r n rows (suc k) s)) part.1
-                ∙ ap (λ (p : Position). zero + taken r n rows l p) part.0 ∙ ap (λ (i : ℕ). zero + i) rest.1),
-          ))
+          let rest = turn_off r n rows l s done in
+          (rw (whole.0, part.0, rest.0) refl, rw (whole.1, part.1, part.0, rest.1) refl))
     ]
-  where
-    suc_more : (a b : ℕ) → suc (a + b) ≡ suc a + b
-    suc_more a b = omega arith

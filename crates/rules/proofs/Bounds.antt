@@ -1,7 +1,7 @@
 -- Lower bounds: the bound of a prefix is the cost of some codes that begin with it, and at most the cost of all that do.
 use Rattle.std.proofs.Common.{◌≡◌, ℕ, zero, suc, ◌+◌, ◌-◌, ◌<◌, ◌≤◌, Bool, true, false, cond, eqb, ltb, List, length, get_or, take, filter, sym, refl, ap, ◌∙◌, subst, inl, inr, eq-or-lt_of_le, arith}
 use Rattle.std.proofs.ByRecursion.{All-get_or}
-use Rattle.std.proofs.lemmas.Bool.{cond_both, cond-true, cond-false, lt-ltb, le-ltb, ltb-true}
+use Rattle.std.proofs.lemmas.Bool.{cond_both, lt-ltb, le-ltb, ltb-true}
 use Rattle.points.specs.Scenarios.{pairs, entry}
 use Rattle.tallies.specs.Joins.{Joining, Monoid, Ranking, joined, most_penalties}
 use Rattle.tallies.specs.Groups.{group, span}
@@ -44,7 +44,7 @@ module _ {P C : Type 0} (j : Joining P C) (m : Monoid j) (at_most : C → C → 
       (λ e. elim (eq-or-lt_of_le h) [
         | inl s ↦ subst (λ (i : ℕ). at_most (G (suc k)) (G i) ≡ true) (sym s) (reflexive j m at_most r (g (suc k)) (few (suc k)))
         | inr l ↦ r.transitive (g (suc k)) (g d) (g c) (few (suc k)) (few d) (few c)
-            (subst (λ (z : C). at_most (G (suc k)) z ≡ true) is e) (subst (λ (z : C). at_most z (G c) ≡ true) is (earlier l))
+            (rw is at e) (rw is at earlier l)
       ])
       (λ e. elim (eq-or-lt_of_le h) [
         | inl s ↦ subst (λ (i : ℕ). at_most low (G i) ≡ true) (sym s)
@@ -74,10 +74,7 @@ module _ {C : Type 0} (j : Joining Claim C) (m : Monoid j) (at_most : C → C �
       let o : ℕ → ℕ = cheapest j at_most b rows in
       let same : (p : ℕ) → span (of_rows j) (pair_bound j at_most b rows) 0 p ≡ span (of_rows j) (λ s. pair_cost j rows s (o s)) 0 p =
       λ p. span_same (of_rows j) (pair_bound j at_most b rows) (λ s. pair_cost j rows s (o s)) 0 p (λ s lo hi. pair_bound_is j at_most b rows s) in
-      same (q + 1)
-      ∙ pairs_push j m n rows proper o q
-      ∙ ap (λ (z : C). j.join z (pair_cost j rows q (o q))) (sym (same q))
-      ∙ ap (j.join (span (of_rows j) (pair_bound j at_most b rows) 0 q)) (sym (pair_bound_is j at_most b rows q))
+      rw (same (q + 1), same q, pair_bound_is j at_most b rows q) (pairs_push j m n rows proper o q)
 
   module _ (q : ℕ) (a : List ℕ) where
     -- The bound of a prefix is the cost of its completion by the cheapest codes.
@@ -87,11 +84,10 @@ module _ {C : Type 0} (j : Joining Claim C) (m : Monoid j) (at_most : C → C �
         let o : ℕ → ℕ = completed j at_most b rows q a in
         let near : span (of_rows j) (λ s. pair_cost j rows s (get_or a s 0)) 0 q ≡ span (of_rows j) (λ s. pair_cost j rows s (o s)) 0 q =
         span_same (of_rows j) (λ s. pair_cost j rows s (get_or a s 0)) (λ s. pair_cost j rows s (o s)) 0 q
-        (λ s lo hi. ap (pair_cost j rows s) (sym (cond-true (ltb s q) (get_or a s 0) (cheapest j at_most b rows s) (lt-ltb s q (omega arith))))) in
+        (λ s lo hi. rw (lt-ltb s q (omega arith)) refl) in
         let far : span (of_rows j) (pair_bound j at_most b rows) q (pairs n - q) ≡ span (of_rows j) (λ s. pair_cost j rows s (o s)) q (pairs n - q) =
         span_same (of_rows j) (pair_bound j at_most b rows) (λ s. pair_cost j rows s (o s)) q (pairs n - q)
-        (λ s lo hi. pair_bound_is j at_most b rows s
-        ∙ ap (pair_cost j rows s) (sym (cond-false (ltb s q) (get_or a s 0) (cheapest j at_most b rows s) (le-ltb s q lo)))) in
+        (λ s lo hi. rw (le-ltb s q lo) (pair_bound_is j at_most b rows s)) in
         ap (λ (z : C). j.join z (span (of_rows j) (pair_bound j at_most b rows) q (pairs n - q))) near
         ∙ ap (j.join (span (of_rows j) (λ s. pair_cost j rows s (o s)) 0 q)) far
         ∙ sym (pairs_split j m n rows proper o q (pairs n) h)
@@ -159,7 +155,7 @@ module _ {C : Type 0} (j : Joining Claim C) (m : Monoid j) (at_most : C → C �
         let o : ℕ → ℕ = completed j at_most b rows q a in
         let w : ℕ → ℕ = λ s. get_or e s 0 in
         let xs : List Row = counting rows in
-        subst (λ (z : C). at_most z (cost j rows (entry e)) ≡ true) (sym (prefix_bound_is q a h))
+        rw (prefix_bound_is q a h)
         (groups_below (of_rows j) (monoid_along claim_of j m) at_most (ranking_along claim_of j at_most ranking) spot
         (λ (r : Row). breaks r (o (spot r))) (λ (r : Row). breaks r (w (spot r))) 0 (pairs n) xs (few_counting n rows proper) (keys_spot n rows proper)
         (λ s lo hi.

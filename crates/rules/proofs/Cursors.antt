@@ -1,5 +1,5 @@
 -- The cursor as codes: the number after all scenarios that share a prefix, by carrying.
-use Rattle.std.proofs.Common.{◌≡◌, ℕ, zero, suc, ◌+◌, ◌-◌, ◌*◌, ◌/◌, ◌^◌, ◌<◌, ◌≤◌, List, [], ◌∷◌, ◌++◌, length, get_or, take, drop, set, replicate, sym, refl, ap, ◌∙◌, subst, inl, inr, append_assoc, mul_assoc, mul_comm, add-mul, eq-or-lt_of_le, one-mul, pow-suc, zero-add, zero-mul, mul-one, div-one, arith, take-suc, pow-add}
+use Rattle.std.proofs.Common.{◌≡◌, ℕ, zero, suc, ◌+◌, ◌-◌, ◌*◌, ◌/◌, ◌^◌, ◌<◌, ◌≤◌, List, [], ◌∷◌, ◌++◌, length, get_or, take, drop, set, replicate, sym, refl, ap, ◌∙◌, subst, inl, inr, append_assoc, mul_assoc, mul_comm, add-mul, eq-or-lt_of_le, one-mul, pow-suc, zero-mul, mul-one, div-one, arith, take-suc, pow-add}
 use native.Mathlib.Nat.{pow-zero}
 use lib.Arith.{digits_div}
 use Rattle.std.proofs.lemmas.List.{length-append, length-drop, length-replicate, length-take-le, take-append-drop, set_at, get_or_at}
@@ -13,17 +13,17 @@ zeros r = replicate r 0
 
 -- The number of codes appended.
 pub index_append : (b : ℕ) (a e : List ℕ) → index b (a ++ e) ≡ index b a * b ^ length e + index b e
-index_append b [] e = sym (ap (λ (z : ℕ). z + index b e) (zero-mul (b ^ length e)) ∙ zero-add (index b e))
+index_append b [] e = omega (arith, zero-mul (b ^ length e))
 index_append b (c ∷ a) e =
     let h = index_append b a e in
     let p : c * b ^ length (a ++ e) ≡ (c * b ^ length a) * b ^ length e =
-    ap (λ (z : ℕ). c * b ^ z) (length-append a e) ∙ ap (λ (z : ℕ). c * z) (pow-add b (length a) (length e)) ∙ sym (mul_assoc c (b ^ length a) (b ^ length e)) in
+    rw (length-append a e, pow-add b (length a) (length e)) (sym (mul_assoc c (b ^ length a) (b ^ length e))) in
     let d = add-mul (c * b ^ length a) (index b a) (b ^ length e) in
     omega (arith, h, p, d)
 
 -- The number of one code.
 pub index_one : (b c : ℕ) → index b (c ∷ []) ≡ c
-index_one b c = ap (λ (z : ℕ). c * z + 0) (pow-zero b) ∙ (let m = mul-one c in omega (arith, m))
+index_one b c = rw (pow-zero b) (omega (arith, mul-one c))
 
 -- The scenario with the number of a is a.
 pub digits_index : (b p : ℕ) (a : List ℕ) → 0 < b → Below b a → length a ≡ p → digits b p (index b a) ≡ a
@@ -36,7 +36,7 @@ digits_index b p a pos low long =
 pub past_one : (b p m : ℕ) → past b p p m ≡ m + 1
 past_one b p m =
     let z : p - p ≡ 0 = omega arith in
-    ap (λ (w : ℕ). (m / b ^ w + 1) * b ^ w) z ∙ ap (λ (w : ℕ). (m / w + 1) * w) (pow-zero b) ∙ mul-one (m / 1 + 1) ∙ ap (λ (w : ℕ). w + 1) (div-one m)
+    rw (z, pow-zero b, div-one m) (mul-one (m + 1))
 
 -- The number without its last digits is that of the first q codes.
 index_take : (b q : ℕ) (a : List ℕ) → Below b a → q ≤ length a → index b a / b ^ (length a - q) ≡ index b (take q a)
@@ -45,11 +45,11 @@ index_take b q a h l =
     ap (index b) (sym (take-append-drop q a)) ∙ index_append b (take q a) (drop q a) in
     let lt = index_lt b (drop q a) (All-drop (λ c. c < b) q a h) in
     let r : index b a / b ^ length (drop q a) ≡ index b (take q a) = ap (λ (z : ℕ). z / b ^ length (drop q a)) e ∙ digits_div (index b (take q a)) lt in
-    subst (λ (z : ℕ). index b a / b ^ z ≡ index b (take q a)) (length-drop q a) r
+    rw (length-drop q a) at r
 
 -- `past` by the number of the prefix.
 past_is : (b q : ℕ) (a : List ℕ) → Below b a → q ≤ length a → past b (length a) q (index b a) ≡ (index b (take q a) + 1) * b ^ (length a - q)
-past_is b q a h l = ap (λ (z : ℕ). (z + 1) * b ^ (length a - q)) (index_take b q a h l)
+past_is b q a h l = rw (index_take b q a h l) refl
 
 -- The codes of a scenario are the digits of its number.
 digits_same : (b : ℕ) (a : List ℕ) → Below b a → digits b (length a) (index b a) ≡ a
@@ -97,9 +97,7 @@ skips b q (c ∷ a) e h g l within from = (
 index_more : (b i : ℕ) (a : List ℕ) → i < length a → index b (take (suc i) a) ≡ index b (take i a) * b + get_or a i 0
 index_more b i a l =
     let one : b ^ 1 ≡ b = pow-suc b 0 ∙ ap (λ (z : ℕ). z * b) (pow-zero b) ∙ one-mul b in
-    ap (index b) (take-suc a i 0 l) ∙ index_append b (take i a) (get_or a i 0 ∷ [])
-    ∙ ap (λ (z : ℕ). index b (take i a) * z + index b (get_or a i 0 ∷ [])) one
-    ∙ ap (λ (z : ℕ). index b (take i a) * b + z) (index_one b (get_or a i 0))
+    rw (take-suc a i 0 l, index_append b (take i a) (get_or a i 0 ∷ []), one, index_one b (get_or a i 0)) refl
 
 -- Where the last code of a prefix is the last code of all, past it is past the prefix before it.
 past_carry : (b i : ℕ) (a : List ℕ) → Below b a → i < length a → b ≤ get_or a i 0 + 1
@@ -142,18 +140,15 @@ past_rise b i a h l =
 write_at : (a : List ℕ) (i v : ℕ) → i < length a → set (take (suc i) a ++ zeros (length a - suc i)) i v ≡ take i a ++ (v ∷ zeros (length a - suc i))
 write_at a i v l =
     let r : ℕ = length a - suc i in
-    ap (λ (z : List ℕ). set (z ++ zeros r) i v) (take-suc a i 0 l)
-    ∙ ap (λ (z : List ℕ). set z i v) (append_assoc (take i a) (get_or a i 0 ∷ []) (zeros r))
-    ∙ set_at (take i a) (get_or a i 0) (zeros r) v i (length-take-le i a (omega arith))
+    rw (take-suc a i 0 l, append_assoc (take i a) (get_or a i 0 ∷ []) (zeros r)) (set_at (take i a) (get_or a i 0) (zeros r) v i (length-take-le i a (omega arith)))
 
 zero_at : (a : List ℕ) (i : ℕ) → i < length a → take i a ++ (0 ∷ zeros (length a - suc i)) ≡ take i a ++ zeros (length a - i)
-zero_at a i l = let e : suc (length a - suc i) ≡ length a - i = omega arith in ap (λ (z : ℕ). take i a ++ zeros z) e
+zero_at a i l = let e : suc (length a - suc i) ≡ length a - i = omega arith in rw (sym e) refl
 
 read_at : (a : List ℕ) (i : ℕ) → i < length a → get_or (take (suc i) a ++ zeros (length a - suc i)) i 0 ≡ get_or a i 0
 read_at a i l =
-    ap (λ (z : List ℕ). get_or (z ++ zeros (length a - suc i)) i 0) (take-suc a i 0 l)
-    ∙ ap (λ (z : List ℕ). get_or z i 0) (append_assoc (take i a) (get_or a i 0 ∷ []) (zeros (length a - suc i)))
-    ∙ get_or_at (take i a) (get_or a i 0) (zeros (length a - suc i)) 0 i (length-take-le i a (omega arith))
+    rw (take-suc a i 0 l, append_assoc (take i a) (get_or a i 0 ∷ []) (zeros (length a - suc i)))
+    (get_or_at (take i a) (get_or a i 0) (zeros (length a - suc i)) 0 i (length-take-le i a (omega arith)))
 
 -- A front with zeros after it has codes only.
 pub below_front : (b i r : ℕ) (a : List ℕ) → 0 < b → Below b a → Below b (take i a ++ zeros r)
@@ -176,11 +171,10 @@ module _ (b q : ℕ) (a : List ℕ) (low : Below b a) (within : q ≤ length a) 
       let s : suc j - 1 ≡ j = omega arith in
       let r : get_or now (suc j - 1) 0 ≡ get_or a j 0 = rw (s, e) (read_at a j l) in
       let w : set now (suc j - 1) (get_or now (suc j - 1) 0 + 1) ≡ take j a ++ ((get_or a j 0 + 1) ∷ zeros (length a - suc j)) =
-      ap (λ (z : ℕ). set now (suc j - 1) (z + 1)) r ∙ ap (λ (z : ℕ). set now z (get_or a j 0 + 1)) s
-      ∙ ap (λ (z : List ℕ). set z j (get_or a j 0 + 1)) e ∙ write_at a j (get_or a j 0 + 1) l in
+      rw (r, s, e) (write_at a j (get_or a j 0 + 1) l) in
       let lt' : get_or a j 0 + 1 < b = omega (arith, r, lt) in (
-        ap (index b) w ∙ past_rise b j a low l ∙ sym g,
-        subst (Below b) (sym w)
+        rw w (past_rise b j a low l ∙ sym g),
+        rw w
             (All-append (λ c. c < b) (take j a) ((get_or a j 0 + 1) ∷ zeros (length a - suc j)) (All-take (λ c. c < b) j a low)
             (lt', below_zeros b (length a - suc j) (omega arith))),
       )
@@ -191,8 +185,8 @@ module _ (b q : ℕ) (a : List ℕ) (low : Below b a) (within : q ≤ length a) 
   turn_zero zero now p l e = absurd (omega arith)
   turn_zero (suc j) now p l e =
       let s : suc j - 1 ≡ j = omega arith in
-      let r : set now j 0 ≡ take j a ++ zeros (length a - j) = ap (λ (z : List ℕ). set z j 0) e ∙ write_at a j 0 l ∙ zero_at a j l in
-      subst (λ (z : ℕ). set now z 0 ≡ take z a ++ zeros (length a - z)) (sym s) r
+      let r : set now j 0 ≡ take j a ++ zeros (length a - j) = rw e (write_at a j 0 l ∙ zero_at a j l) in
+      rw s r
 
   -- It did not rise: either it is not one of the first q, or it is the last code.
   pub turn_carry : (i : ℕ) (now : List ℕ) → 0 < i → i ≤ length a → now ≡ take i a ++ zeros (length a - i) → (i ≤ q → goal q ≡ goal i)
@@ -201,7 +195,7 @@ module _ (b q : ℕ) (a : List ℕ) (low : Below b a) (within : q ≤ length a) 
   turn_carry (suc j) now p l e g top u =
       let s : suc j - 1 ≡ j = omega arith in
       let u' : j ≤ q = omega arith in
-      subst (λ (z : ℕ). goal q ≡ goal z) (sym s)
+      rw s
       (elim (eq-or-lt_of_le u') [
         | inl same ↦ ap goal (sym same)
         | inr lt ↦ (let r = turn_read (suc j) now p l e in
@@ -212,6 +206,4 @@ module _ (b q : ℕ) (a : List ℕ) (low : Below b a) (within : q ≤ length a) 
 
 -- The scenario numbered 1: zeros, and 1 in the last pair.
 pub index_second : (b p : ℕ) → index b (zeros p ++ (1 ∷ [])) ≡ 1
-index_second b p =
-    index_append b (zeros p) (1 ∷ []) ∙ ap (λ (z : ℕ). z * b ^ 1 + index b (1 ∷ [])) (index_zeros b p)
-    ∙ ap (λ (z : ℕ). z + index b (1 ∷ [])) (zero-mul (b ^ 1)) ∙ zero-add (index b (1 ∷ [])) ∙ index_one b 1
+index_second b p = rw (index_append b (zeros p) (1 ∷ []), index_zeros b p, index_one b 1) (omega (arith, zero-mul (b ^ 1)))

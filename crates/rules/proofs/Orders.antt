@@ -13,7 +13,7 @@ index_lt b (c ∷ a) h = rw (pow-suc, mul_comm (b ^ length a) b) (digits_lt h.0 
 
 -- The same by the length of another scenario.
 index_lt_as : (b : ℕ) (a e : List ℕ) → length a ≡ length e → Below b a → index b a < b ^ length e
-index_lt_as b a e l h = subst (λ (p : ℕ). index b a < b ^ p) l (index_lt b a h)
+index_lt_as b a e l h = rw (sym l) (index_lt b a h)
 
 -- Scenarios of one length with one number are the same.
 pub index_same : (b : ℕ) (a e : List ℕ) → Below b a → Below b e → length a ≡ length e → index b a ≡ index b e → a ≡ e
@@ -37,11 +37,10 @@ before_index b (c ∷ a) [] h g l x = absurd x
 before_index b (c ∷ a) (d ∷ e) h g l x =
     let l' : length a ≡ length e = omega arith in
     let below_a : index b a < b ^ length e = index_lt_as b a e l' h.1 in
-    subst (λ (p : ℕ). c * b ^ p + index b a < d * b ^ length e + index b e) (sym l')
+    rw l'
     (elim x [
       | inl lt ↦ omega (arith, digits_lt {q = c} {m = d} {r = index b a} {c = b ^ length e} lt below_a)
-      | inr r ↦ subst (λ (z : ℕ). c * b ^ length e + index b a < z * b ^ length e + index b e) r.0
-          (omega (arith, before_index b a e h.1 g.1 l' r.1))
+      | inr r ↦ rw r.0 (omega (arith, before_index b a e h.1 g.1 l' r.1))
     ])
 
 -- A scenario with a lower number is before the other in dictionary order.
@@ -51,12 +50,11 @@ index_before b [] (d ∷ e) h g l x = absurd (omega arith)
 index_before b (c ∷ a) [] h g l x = absurd (omega arith)
 index_before b (c ∷ a) (d ∷ e) h g l x =
     let l' : length e ≡ length a = omega arith in
-    let x' : c * b ^ length a + index b a < d * b ^ length a + index b e = subst (λ (p : ℕ). index b (c ∷ a) < d * b ^ p + index b e) l' x in
+    let x' : c * b ^ length a + index b a < d * b ^ length a + index b e = rw l' at x in
     let below_e : index b e < b ^ length a = index_lt_as b e a l' g.1 in
     elim (cases_order c d) [
       | inl same ↦
-          let y : c * b ^ length a + index b a < c * b ^ length a + index b e =
-          subst (λ (z : ℕ). c * b ^ length a + index b a < z * b ^ length a + index b e) (sym same) x' in
+          let y : c * b ^ length a + index b a < c * b ^ length a + index b e = rw (sym same) at x' in
           inr (same, index_before b a e h.1 g.1 (sym l') (omega arith))
       | inr (inl lt) ↦ inl lt
       | inr (inr gt) ↦ absurd (omega (arith, digits_lt {q = d} {m = c} {r = index b e} {c = b ^ length a} gt below_e))
@@ -76,7 +74,7 @@ below_digits b zero m h = tt
 below_digits b (suc p) m h = (mod-lt (m / b ^ p) h, below_digits b p m h)
 
 index_digits_mod : (b p m : ℕ) → 0 < b → index b (digits b p m) ≡ m % b ^ p
-index_digits_mod b zero m h = sym (ap (λ (z : ℕ). m % z) (pow-zero b) ∙ mod-one m)
+index_digits_mod b zero m h = rw (pow-zero b) (sym (mod-one m))
 index_digits_mod b (suc p) m h =
     rw (length_digits b p m, index_digits_mod b p m h, pow-suc b p, mul_comm (b ^ p) b) (sym (mod-mul m h (one-le-pow p b h)))
 
@@ -100,8 +98,7 @@ without_low : (b c i q r : ℕ) → 0 < b → i < b ^ (q + r) → ((c * b ^ (q +
 without_low b c i q r h l =
     let pos = one-le-pow r b h in
     let e : c * b ^ (q + r) ≡ (c * b ^ q) * b ^ r = ap (λ (z : ℕ). c * z) (pow-add b q r) ∙ sym (mul_assoc c (b ^ q) (b ^ r)) in
-    let l' : i < b ^ q * b ^ r = subst (λ (z : ℕ). i < z) (pow-add b q r) l in
-    (ap (λ (z : ℕ). (z + i) / b ^ r) e ∙ mul-add-div_right pos (c * b ^ q) i, (div-lt_iff_lt-mul pos).1 l')
+    (rw e (mul-add-div_right pos (c * b ^ q) i), (div-lt_iff_lt-mul pos).1 (rw (pow-add b q r) at l))
 
 -- Numbers that are the same without their last r digits have the same codes before these.
 same_prefix : (b r q : ℕ) (a e : List ℕ) → 0 < b → Below b a → Below b e → length a ≡ q + r → length e ≡ q + r
@@ -114,9 +111,7 @@ same_prefix b r (suc q) (c ∷ a) (d ∷ e) pos h g la le i =
     let le' : length e ≡ q + r = omega arith in
     let ha = without_low b c (index b a) q r pos (subst (λ (z : ℕ). index b a < b ^ z) la' (index_lt b a h.1)) in
     let he = without_low b d (index b e) q r pos (subst (λ (z : ℕ). index b e < b ^ z) le' (index_lt b e g.1)) in
-    let i' : c * b ^ q + index b a / b ^ r ≡ d * b ^ q + index b e / b ^ r =
-    sym ha.0 ∙ ap (λ (z : ℕ). (c * b ^ z + index b a) / b ^ r) (sym la') ∙ i
-    ∙ ap (λ (z : ℕ). (d * b ^ z + index b e) / b ^ r) le' ∙ he.0 in
+    let i' : c * b ^ q + index b a / b ^ r ≡ d * b ^ q + index b e / b ^ r = sym ha.0 ∙ (rw (la', le') at i) ∙ he.0 in
     let first : c ≡ d = sym (digits_div c ha.1) ∙ ap (λ (z : ℕ). z / b ^ q) i' ∙ digits_div d he.1 in
     let low : index b a / b ^ r ≡ index b e / b ^ r = sym (digits_mod c ha.1) ∙ ap (λ (z : ℕ). z % b ^ q) i' ∙ digits_mod d he.1 in
     let rest : take q a ≡ take q e = same_prefix b r q a e pos h.1 g.1 la' le' low in
@@ -147,6 +142,6 @@ pub past_within : (b p q m : ℕ) → 0 < b → q ≤ p → m < b ^ p → past b
 past_within b p q m pos qp mp =
     let sum : q + (p - q) ≡ p = omega arith in
     let e : b ^ p ≡ b ^ q * b ^ (p - q) = ap (λ (z : ℕ). b ^ z) (sym sum) ∙ pow-add b q (p - q) in
-    let low : m / b ^ (p - q) < b ^ q = (div-lt_iff_lt-mul (one-le-pow (p - q) b pos)).1 (subst (λ (z : ℕ). m < z) e mp) in
+    let low : m / b ^ (p - q) < b ^ q = (div-lt_iff_lt-mul (one-le-pow (p - q) b pos)).1 (rw e at mp) in
     let low' : m / b ^ (p - q) + 1 ≤ b ^ q = omega arith in
     rw e (mul-le-mul_right (b ^ (p - q)) low')

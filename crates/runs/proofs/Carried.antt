@@ -1,5 +1,5 @@
 -- A call of a closed sheet, or of either state, is carried out as the model has it.
-use Rattle.std.proofs.Common.{◌≡◌, ℕ, ◌+◌, ◌<◌, ◌≤◌, Bool, length, take, get_or, List, [], ◌∷◌, ◌++◌, Ok, Err, Result, None, Some, Option, IfOk, sym, refl, ap, ◌∙◌, subst}
+use Rattle.std.proofs.Common.{◌≡◌, ℕ, ◌+◌, ◌<◌, ◌≤◌, Bool, length, take, get_or, List, [], ◌∷◌, ◌++◌, Ok, Err, Result, None, Some, IfOk, refl, ap}
 use Rattle.std.proofs.lemmas.List.{take_more, take_all}
 use Rattle.kinds.specs.Meaning.{Meaning}
 use Rattle.kinds.specs.declared.kind.Kind.{Ghosts as Kinds}
@@ -7,8 +7,7 @@ use Rattle.tallies.specs.Joins.{Joining}
 use Rattle.tallies.specs.declared.claim.Claim.{Claim}
 use Rattle.tallies.specs.declared.tally.Tally.{Ghosts as Tallies}
 use Rattle.tallies.specs.declared.tally.Joins.{Ghosts as Joinings}
-use Rattle.rules.specs.declared.row.Row.{Row}
-use Rattle.rules.specs.Steps.{Rules, Position, advance, taken}
+use Rattle.rules.specs.Steps.{Rules, taken}
 use Rattle.rules.specs.Soundness.{rules}
 use Rattle.search.specs.Closed.{rows_of, position_of}
 use Rattle.statements.specs.declared.fault.Fault.{Fault}
@@ -22,7 +21,7 @@ use Rattle.runs.specs.declared.answer.Answer.{Answer}
 use Rattle.runs.specs.declared.answer.Answer.TheVariants.{Refused, Took}
 use Rattle.runs.specs.declared.state.State.{State}
 use Rattle.runs.specs.declared.state.State.TheVariants.{Closing}
-use Rattle.runs.specs.Models.{Model, closed, verdict, next, after}
+use Rattle.runs.specs.Models.{Model, next, after}
 use Rattle.runs.specs.Answers.{Showing, AnswersCall, AnswersScript}
 use Rattle.runs.specs.States.{closed_view, Views, Carries}
 
@@ -31,39 +30,17 @@ module _ {A B V C : Type 0} {k : Kinds A V} {t : Tallies B C} {g : Joinings B C}
   pub carried_search : (s s' : Closed A B V C k t g) (steps took : ℕ) → first_fault (search_checks steps) ≡ None
       → Searched (rules m fit j at_most) s.sheet s'.sheet steps took → (so_far asked : ℕ) → Carries {k = k} {t = t} {j = g} m values (rules m fit j at_most) (closed_view s so_far asked) (Search steps) (Closing s') (Took took)
   carried_search s s' steps took pass found so_far asked =
-      let n = s.sheet.items in
-      let rows = rows_of s.sheet in
-      let at : Position = position_of s.sheet in
       let further : ℕ = taken (rules m fit j at_most) s.sheet.items (rows_of s.sheet) steps (position_of s.sheet) in
-      let good : Model = closed s.sheet.items (rows_of s.sheet) (advance (rules m fit j at_most) s.sheet.items (rows_of s.sheet) steps (position_of s.sheet)) (so_far + further) (asked + steps) in
-      let moved : good ≡ closed_view s' (so_far + further) (asked + steps) =
-      ap (λ (z : ℕ). closed z (rows_of s.sheet) (advance (rules m fit j at_most) s.sheet.items (rows_of s.sheet) steps (position_of s.sheet)) (so_far + further) (asked + steps)) (sym found.parts.same_items)
-      ∙ ap (λ (z : List Row). closed s'.sheet.items z (advance (rules m fit j at_most) s.sheet.items (rows_of s.sheet) steps (position_of s.sheet)) (so_far + further) (asked + steps)) (sym found.parts.same_rows)
-      ∙ ap (λ (z : Position). closed s'.sheet.items (rows_of s'.sheet) z (so_far + further) (asked + steps)) (sym found.moved) in
-      record {
-        answers = ap Took found.count ∙ ap (λ (o : Option Fault). verdict {A = Answer V C} o (Took further) Refused) (sym pass);
-        views = (
-          so_far + further,
-          asked + steps,
-          ap (λ (o : Option Fault). verdict {A = Model} o good (λ _. closed_view s so_far asked)) pass ∙ moved,
-        );
-      }
+      let items = found.parts.same_items in
+      let rows = found.parts.same_rows in
+      let moved = found.moved in
+      let count = found.count in
+      record { answers = rw pass (ap Took count); views = (so_far + further, asked + steps, rw pass cc) }
 
   -- a refused search
   pub refused_search : (s s' : Closed A B V C k t g) (steps : ℕ) (f : Fault) → first_fault (search_checks steps) ≡ Some f → s' ≡ s
       → (so_far asked : ℕ) → Carries {k = k} {t = t} {j = g} m values (rules m fit j at_most) (closed_view s so_far asked) (Search steps) (Closing s') (Refused f)
-  refused_search s s' steps f fail same so_far asked =
-      let further : ℕ = taken (rules m fit j at_most) s.sheet.items (rows_of s.sheet) steps (position_of s.sheet) in
-      let good : Model = closed s.sheet.items (rows_of s.sheet) (advance (rules m fit j at_most) s.sheet.items (rows_of s.sheet) steps (position_of s.sheet)) (so_far + further) (asked + steps) in
-      record {
-        answers = ap (λ (o : Option Fault). verdict {A = Answer V C} o (Took further) Refused) (sym fail);
-        views = (
-          so_far,
-          asked,
-          ap (λ (o : Option Fault). verdict {A = Model} o good (λ _. closed_view s so_far asked)) fail
-              ∙ sym (ap (λ (z : Closed A B V C k t g). closed_view z so_far asked) same),
-        );
-      }
+  refused_search s s' steps f fail same so_far asked = record { answers = rw fail refl; views = (so_far, asked, rw fail cc) }
 
   pub carried_show : (s : Closed A B V C k t g) (places : ℕ) (a : Answer V C)
       → Showing m values (rules m fit j at_most) s.sheet.items (rows_of s.sheet) (position_of s.sheet) places a → (so_far asked : ℕ) → Carries {k = k} {t = t} {j = g} m values (rules m fit j at_most) (closed_view s so_far asked) (Show places) (Closing s) a
@@ -73,7 +50,7 @@ module _ {A B V C : Type 0} {k : Kinds A V} {t : Tallies B C} {g : Joinings B C}
   pub any_view : (s : Closed A B V C k t g) (c : Call) (state : State A B V C k t g) (a : Answer V C)
       → ((steps asked : ℕ) → Carries {k = k} {t = t} {j = g} m values (rules m fit j at_most) (closed_view s steps asked) c state a)
       → (x : Model) → Views {k = k} {t = t} {j = g} (Closing s) x → Carries {k = k} {t = t} {j = g} m values (rules m fit j at_most) x c state a
-  any_view s c state a h x v = subst (λ (z : Model). Carries {k = k} {t = t} {j = g} m values (rules m fit j at_most) z c state a) (sym v.2) (h v.0 v.1)
+  any_view s c state a h x v = rw v.2 (h v.0 v.1)
 
   pub any_result : {E : Type 0} (s : Closed A B V C k t g) (c : Call) (u : Result (State A B V C k t g × Answer V C) E)
       → IfOk u (λ p. (steps asked : ℕ) → Carries m values (rules m fit j at_most) (closed_view s steps asked) c p.0 p.1)
@@ -112,15 +89,12 @@ reaches_more m values r x script i d answers answers' a state state' l so_far on
     let more = take_more script i d l in
     let carries = one (after m r x (take i script)) so_far.views in
     record {
-      views = subst (λ (z : Model). Views state' z) (sym (ap (after m r x) more ∙ after_push m values r x (take i script) (get_or script i d))) carries.views;
-      answered = subst (λ (z : List Call). AnswersScript m values r x z answers') (sym more)
-          (subst (λ (z : List (Answer _ _)). AnswersScript m values r x (take i script ++ (get_or script i d ∷ [])) z) (sym e)
-          (answers_push m values r x (take i script) answers (get_or script i d) a so_far.answered carries.answers));
+      views = rw (more, after_push m values r x (take i script) (get_or script i d)) carries.views;
+      answered = rw (more, e) (answers_push m values r x (take i script) answers (get_or script i d) a so_far.answered carries.answers);
     }
 
 -- At the end of the script.
 pub reached_end : {A B V C : Type 0} {k : Kinds A V} {t : Tallies B C} {j : Joinings B C} (m : Meaning V) (values : ℕ → List ℕ → ℕ → V) (r : Rules C)
     (x : Model) (script : List Call) (i : ℕ) (answers : List (Answer V C)) (state : State A B V C k t j) → length script ≤ i
     → Reaches m values r x (take i script) answers state → AnswersScript m values r x script answers
-reached_end m values r x script i answers state l h =
-    subst (λ (z : List Call). AnswersScript m values r x z answers) (take_all i script l) h.answered
+reached_end m values r x script i answers state l h = rw (take_all i script l) at h.answered

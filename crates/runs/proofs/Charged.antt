@@ -110,10 +110,8 @@ module _ {V C : Type 0} (m : Meaning V) (values : ℕ → List ℕ → ℕ → V
       → (n : ℕ) (rows : List Row) (s : Position) → Stands n rows s (after m r x (take i calls)) → Stands n rows s (after m r x (take l calls))
   meets (drafting a rs) calls answers zero l il w q n rows s h = absurd h
   meets (closed a rs u steps asked) calls answers zero l il w q n rows s h =
-      subst (λ (z : ℕ). Stands z rows s (after m r (closed a rs u steps asked) (take l calls))) h.0
-      (subst (λ (z : List Row). Stands a z s (after m r (closed a rs u steps asked) (take l calls))) h.1
-      (subst (λ (z : Position). Stands a rs z (after m r (closed a rs u steps asked) (take l calls))) h.2
-      (stays a rs u steps asked calls answers l w (λ k c b lt. q k c b (omega arith) lt))))
+      let moved = stays a rs u steps asked calls answers l w (λ k c b lt. q k c b (omega arith) lt) in
+      rw (sym h.0, sym h.1, sym h.2) moved
   meets x calls answers (suc i) zero il w q n rows s h = absurd (omega (arith, il))
   meets x [] answers (suc i) (suc l) il w q n rows s h = h
   meets x (c ∷ cs) [] (suc i) (suc l) il w q n rows s h = absurd w
@@ -130,16 +128,16 @@ module _ {V C : Type 0} (m : Meaning V) (values : ℕ → List ℕ → ℕ → V
 
   pub shown_on : (y : Model) (c : Call) (sight : Sight V C) → AnswersCall m values r y c (Shown sight) → OnClosed (λ n rows s. SightOf m values r n rows s sight) y
   shown_on (drafting n rows) c sight e = absurd (let low = sorted m values r (drafting n rows) c (Shown sight) e in omega (arith, low))
-  shown_on (closed n rows s steps asked) (Size k) sight e = absurd (wrong n rows s steps asked (Size k) (Shown sight) (λ z. omega (arith, z)) (λ z. omega (arith, z)) e)
-  shown_on (closed n rows s steps asked) (Enter i) sight e = absurd (wrong n rows s steps asked (Enter i) (Shown sight) (λ z. omega (arith, z)) (λ z. omega (arith, z)) e)
-  shown_on (closed n rows s steps asked) (Strike i) sight e = absurd (wrong n rows s steps asked (Strike i) (Shown sight) (λ z. omega (arith, z)) (λ z. omega (arith, z)) e)
-  shown_on (closed n rows s steps asked) (Reweigh i w) sight e = absurd (wrong n rows s steps asked (Reweigh i w) (Shown sight) (λ z. omega (arith, z)) (λ z. omega (arith, z)) e)
-  shown_on (closed n rows s steps asked) (Look i) sight e = absurd (wrong n rows s steps asked (Look i) (Shown sight) (λ z. omega (arith, z)) (λ z. omega (arith, z)) e)
-  shown_on (closed n rows s steps asked) Close sight e = absurd (wrong n rows s steps asked Close (Shown sight) (λ z. omega (arith, z)) (λ z. omega (arith, z)) e)
+  shown_on (closed n rows s steps asked) (Size k) sight e = cc
+  shown_on (closed n rows s steps asked) (Enter i) sight e = cc
+  shown_on (closed n rows s steps asked) (Strike i) sight e = cc
+  shown_on (closed n rows s steps asked) (Reweigh i w) sight e = cc
+  shown_on (closed n rows s steps asked) (Look i) sight e = cc
+  shown_on (closed n rows s steps asked) Close sight e = cc
   shown_on (closed n rows s steps asked) (Search k) sight e = absurd (wrong n rows s steps asked (Search k) (Shown sight) (λ z. omega (arith, z)) (λ z. omega (arith, z)) e)
   shown_on (closed n rows s steps asked) (Show places) sight e = e.1
   shown_on (closed n rows s steps asked) (Charge p) sight e = absurd (wrong n rows s steps asked (Charge p) (Shown sight) (λ z. omega (arith, z)) (λ z. omega (arith, z)) e)
-  shown_on (closed n rows s steps asked) Reopen sight e = absurd (wrong n rows s steps asked Reopen (Shown sight) (λ z. omega (arith, z)) (λ z. omega (arith, z)) e)
+  shown_on (closed n rows s steps asked) Reopen sight e = cc
 
   charged_on : (y : Model) (p : ℕ) (c : C) → AnswersCall m values r y (Charge p) (Charged c) → OnClosed (λ n rows s. c ≡ charge r.joining rows (entry s.incumbent) p) y
   charged_on (drafting n rows) p c e = absurd (let low = sorted m values r (drafting n rows) (Charge p) (Charged c) e in omega (arith, low))
@@ -153,8 +151,7 @@ module _ {V C : Type 0} (m : Meaning V) (values : ℕ → List ℕ → ℕ → V
       → (i p : ℕ) (c : C) → Told calls answers l i p c → c ≡ charge r.joining rows (entry s.incumbent) p
   told_charge x calls answers w l n rows s h i p c t =
       let at_i = made m values r x calls answers w i (Charged c) t.told in
-      let fits : AnswersCall m values r (after m r x (take i calls)) (Charge p) (Charged c) =
-      subst (λ (d : Call). AnswersCall m values r (after m r x (take i calls)) d (Charged c)) (at_same calls i at_i.call (Charge p) at_i.stands t.asked) at_i.fits in
+      let fits = rw (at_same calls i at_i.call (Charge p) at_i.stands t.asked) at at_i.fits in
       let k = known (λ n rows s. c ≡ charge r.joining rows (entry s.incumbent) p) (after m r x (take i calls)) (charged_on (after m r x (take i calls)) p c fits) in
       let same : (k.rows ≡ rows) × (k.s ≡ s) = elim (cases_lt i l) [
         | inl lt ↦ one_sheet n k.n rows k.rows s k.s (after m r x (take l calls)) h
@@ -162,9 +159,7 @@ module _ {V C : Type 0} (m : Meaning V) (values : ℕ → List ℕ → ℕ → V
         | inr ge ↦ one_sheet n k.n rows k.rows s k.s (after m r x (take i calls))
             (meets x calls answers l i ge w (λ q d b lo hi. t.still q d b (inr (lo, hi))) n rows s h) k.stands
       ] in
-      k.so
-      ∙ ap (λ (z : List Row). charge r.joining z (entry k.s.incumbent) p) same.0
-      ∙ ap (λ (z : Position). charge r.joining rows (entry z.incumbent) p) same.1
+      rw (same.0, same.1) at k.so
 
   pub charges : Monoid r.joining → (x : Model) (calls : List Call) (answers : List (Answer V C)) → AnswersScript m values r x calls answers
       → ((i n : ℕ) (rows : List Row) (s : Position) → Stands n rows s (after m r x (take i calls)) → Proper n rows) → Charges m r calls answers

@@ -1,16 +1,15 @@
 -- Every run keeps the law.
-use Rattle.std.proofs.Common.{◌≡◌, ℕ, ◌+◌, ◌-◌, ◌<◌, ◌≤◌, Bool, true, List, get_or, take, Some, None, vec_items, Decides, Option, sym, ap, ◌∙◌, subst, inl, inr, arith}
+use Rattle.std.proofs.Common.{◌≡◌, ℕ, ◌+◌, ◌-◌, ◌<◌, ◌≤◌, Bool, true, List, get_or, take, Some, None, vec_items, Decides, Option, sym, ap, ◌∙◌, inl, inr, arith}
 use Rattle.std.proofs.lemmas.Bool.{cases_Bool, leb-false}
-use Rattle.points.specs.Scenarios.{entry}
 use Rattle.kinds.specs.Meaning.{Meaning, Laws, Fits, Realises, Realisation}
 use Rattle.tallies.specs.Joins.{Joining, Monoid, Ranking}
 use Rattle.tallies.specs.declared.claim.Claim.{Claim}
 use Rattle.rules.specs.declared.row.Row.{Row}
 use Rattle.rules.specs.Rows.{Proper}
 use Rattle.rules.specs.Properly.{proper}
-use Rattle.rules.specs.Steps.{Rules, Position, best_cost, total, finished, advance, taken}
+use Rattle.rules.specs.Steps.{Rules, Position, total, finished, advance, taken}
 use Rattle.rules.proofs.Floors.{bound_below}
-use Rattle.rules.specs.Soundness.{cost_by, Settled, rules}
+use Rattle.rules.specs.Soundness.{rules}
 use Rattle.rules.proofs.Orders.{in_order}
 use Rattle.rules.proofs.Properly.{proper_is}
 use Rattle.rules.proofs.Incumbents.{settled}
@@ -46,9 +45,8 @@ module _ {V C : Type 0} (m : Meaning V) (laws : Laws m) (fit : ℕ → ℕ → �
   -- Values that agree with some that have a scenario have it too.
   realises_same : (n : ℕ) (a : List ℕ) (x y : ℕ → V) → ((i : ℕ) → i < n → y i ≡ x i) → Realises m n a x → Realises m n a y
   realises_same n a x y same h = record {
-    lawful = λ i l. subst m.lawful (sym (same i l)) (h.lawful i l);
-    related = λ i k ik kn. subst (λ (u : V). m.holds (entry a i k) u (y k)) (sym (same i (omega (arith, ik, kn))))
-        (subst (λ (v : V). m.holds (entry a i k) (x i) v) (sym (same k kn)) (h.related i k ik kn));
+    lawful = λ i l. rw (same i l) (h.lawful i l);
+    related = λ i k ik kn. rw (same i (omega (arith, ik, kn)), same k kn) (h.related i k ik kn);
   }
 
   -- A search that was asked for enough steps has finished.
@@ -66,11 +64,8 @@ module _ {V C : Type 0} (m : Meaning V) (laws : Laws m) (fit : ℕ → ℕ → �
         let x : ℕ → V = λ i. get_or (vec_items sight.values) i other in
         let real : Realises m n s.incumbent x =
         realises_same n s.incumbent (values n s.incumbent) x (λ i l. w.written i other l) (realises n s.incumbent h.fine.some h.fine.few h.sound.fitting) in
-        let is : Settled m r n rows s x (best_cost r rows s) (finished r n s) = settled m laws fit j at_most n rows (proper_is n rows h.fine.sound) s h.sound x real in
-        subst (λ (c : C). Settled m r n rows s x c sight.shown.finished) (sym w.costs.cost_is)
-        (subst (λ (v : Bool). Settled m r n rows s x (best_cost r rows s) v) (sym w.costs.finished_is) is);
-    below = λ y law. subst (λ (c : C). at_most c (cost_by m j rows y) ≡ true) (sym w.costs.floor_is)
-        (bound_below m laws fit j monoid at_most ranking n rows (proper_is n rows h.fine.sound) y law);
+        rw (w.costs.cost_is, w.costs.finished_is) (settled m laws fit j at_most n rows (proper_is n rows h.fine.sound) s h.sound x real);
+    below = λ y law. rw w.costs.floor_is (bound_below m laws fit j monoid at_most ranking n rows (proper_is n rows h.fine.sound) y law);
     ends = λ l. w.costs.finished_is ∙ asked_enough n rows s steps asked h (omega (arith, e.1, l));
   }
 
@@ -117,21 +112,21 @@ module _ {V C : Type 0} (m : Meaning V) (laws : Laws m) (fit : ℕ → ℕ → �
 
   pace_one : (y : Model) (c : Call) (t : ℕ) → Good y → AnswersCall m values r y c (Took t) → cursor_at y + t ≤ cursor_at (next m r y c)
   pace_one (drafting n rows) c t h e = absurd (let low = sorted m values r (drafting n rows) c (Took t) e in omega (arith, low))
-  pace_one (closed n rows s steps asked) (Size k) t h e = absurd (wrong m values r n rows s steps asked (Size k) (Took t) (λ z. omega (arith, z)) (λ z. omega (arith, z)) e)
-  pace_one (closed n rows s steps asked) (Enter i) t h e = absurd (wrong m values r n rows s steps asked (Enter i) (Took t) (λ z. omega (arith, z)) (λ z. omega (arith, z)) e)
-  pace_one (closed n rows s steps asked) (Strike i) t h e = absurd (wrong m values r n rows s steps asked (Strike i) (Took t) (λ z. omega (arith, z)) (λ z. omega (arith, z)) e)
-  pace_one (closed n rows s steps asked) (Reweigh i w) t h e = absurd (wrong m values r n rows s steps asked (Reweigh i w) (Took t) (λ z. omega (arith, z)) (λ z. omega (arith, z)) e)
-  pace_one (closed n rows s steps asked) (Look i) t h e = absurd (wrong m values r n rows s steps asked (Look i) (Took t) (λ z. omega (arith, z)) (λ z. omega (arith, z)) e)
-  pace_one (closed n rows s steps asked) Close t h e = absurd (wrong m values r n rows s steps asked Close (Took t) (λ z. omega (arith, z)) (λ z. omega (arith, z)) e)
+  pace_one (closed n rows s steps asked) (Size k) t h e = cc
+  pace_one (closed n rows s steps asked) (Enter i) t h e = cc
+  pace_one (closed n rows s steps asked) (Strike i) t h e = cc
+  pace_one (closed n rows s steps asked) (Reweigh i w) t h e = cc
+  pace_one (closed n rows s steps asked) (Look i) t h e = cc
+  pace_one (closed n rows s steps asked) Close t h e = cc
   pace_one (closed n rows s steps asked) (Search k) t h e = (full_one (closed n rows s steps asked) k t h e).0
-  pace_one (closed n rows s steps asked) (Show places) t h e = absurd (wrong m values r n rows s steps asked (Show places) (Took t) (λ z. omega (arith, z)) (λ z. omega (arith, z)) e)
+  pace_one (closed n rows s steps asked) (Show places) t h e = absurd e
   pace_one (closed n rows s steps asked) (Charge p) t h e = absurd (wrong m values r n rows s steps asked (Charge p) (Took t) (λ z. omega (arith, z)) (λ z. omega (arith, z)) e)
-  pace_one (closed n rows s steps asked) Reopen t h e = absurd (wrong m values r n rows s steps asked Reopen (Took t) (λ z. omega (arith, z)) (λ z. omega (arith, z)) e)
+  pace_one (closed n rows s steps asked) Reopen t h e = cc
 
   fine_stands : (y : Model) → Good y → (n : ℕ) (rows : List Row) (s : Position) → Stands n rows s y → Proper n rows
   fine_stands (drafting a rs) h n rows s e = absurd e
   fine_stands (closed a rs u steps asked) h n rows s e =
-      subst (λ (z : ℕ). Proper z rows) e.0 (subst (λ (z : List Row). Proper a z) e.1 (proper_is a rs h.fine.sound))
+      rw (sym e.0, sym e.1) (proper_is a rs h.fine.sound)
 
   -- The law of every run from a draft.
   pub run_law : (n : ℕ) (rows : List Row) → 1 ≤ n → n ≤ 12 → proper n rows ≡ true → (calls : List Call) (answers : List (Answer V C))
@@ -151,14 +146,12 @@ module _ {V C : Type 0} (m : Meaning V) (laws : Laws m) (fit : ℕ → ℕ → �
         charges = charges m values r monoid x calls answers w (λ i. fine_stands (after m r x (take i calls)) (fine i));
         pace = λ i t h.
             let at_i = made m values r (drafting n rows) calls answers w i (Took t) h in
-            subst (λ (y : Model). cursor_at (after m r (drafting n rows) (take i calls)) + t ≤ cursor_at y) (sym (after_next m values r x calls i at_i.call at_i.stands))
-            (pace_one (after m r x (take i calls)) at_i.call t (fine i) at_i.fits);
+            rw (after_next m values r x calls i at_i.call at_i.stands) (pace_one (after m r x (take i calls)) at_i.call t (fine i) at_i.fits);
         full = λ i k t asks told.
             let at_i = made m values r (drafting n rows) calls answers w i (Took t) told in
-            let fits : AnswersCall m values r (after m r (drafting n rows) (take i calls)) (Search k) (Took t) =
-            subst (λ (d : Call). AnswersCall m values r (after m r (drafting n rows) (take i calls)) d (Took t)) (at_same calls i at_i.call (Search k) at_i.stands asks) at_i.fits in
+            let fits = rw (at_same calls i at_i.call (Search k) at_i.stands asks) at at_i.fits in
             let one = full_one (after m r x (take i calls)) k t (fine i) fits in
-            (one.1, λ l. subst (OnClosed (λ n rows s. finished r n s ≡ true)) (sym (after_next m values r x calls i (Search k) asks)) (one.2 l));
+            (one.1, λ l. rw (after_next m values r x calls i (Search k) asks) (one.2 l));
         progress = λ i l. going (after m r x (take i calls)) (stepped i calls answers) (wanted i calls answers) (fine i) (counts i);
         order = in_order m.codes;
       }

@@ -22,22 +22,8 @@ loop-line-preserved g c =
       row.0 ∙ c.loop-line.invariant.1,
     )
 
-pub returns-in_err-placed-clause-answer : goal.returns-in_err-placed-clause-answer
-returns-in_err-placed-clause-answer g c =
-    let s = spelled g.K.Kind.meaning g.K.Notation.words g.K.Notation.initial g.T.TallyLetter.initial in
-    let l = c.in-Some.line.now in
-    let d = c.loop-line.draft in
-    let f = c.in_err-placed.field-0.0 in
-    let p = err_from_is_err_and c.from_residual.result c.from_residual.ensures.1 in
-    let unfit = read_unfit c.next_statement.new.self.place c.enter_line.result f c.in_err-placed.ensures in
-    let bad = sym unfit.0 ∙ c.enter_line.ensures.answer ∙ ap (λ z. answered (line_fault s z d.rows.items l) (tt {0})) c.loop-line.invariant.1 in
-    let first = one_refused s c.args.draft.now.items c.args.spot.now.place (lines c.args.spot.now.ahead.rest.now) c.args.draft.now.rows.items
-    c.loop-line.spot.place (lines c.loop-line.spot.ahead.rest.now) (lines c.next_statement.new.self.ahead.rest.now) d.rows.items l
-    c.loop-line.invariant.0 c.in-Some.ensures.0 c.in-Some.ensures.1 f.fault bad in
-    rw (p.1, p.2) (ap (λ x. Err (record { place = x; fault = f.fault })) (unfit.1 ∙ c.in-Some.ensures.2) ∙ sym (ap (λ o. answered o (tt {0})) first))
-
-pub returns-in_err-placed-clause-loaded : goal.returns-in_err-placed-clause-loaded
-returns-in_err-placed-clause-loaded g c =
+pub returns-in_err-placed : goal.returns-in_err-placed
+returns-in_err-placed g c =
     let s = spelled g.K.Kind.meaning g.K.Notation.words g.K.Notation.initial g.T.TallyLetter.initial in
     let l = c.in-Some.line.now in
     let d = c.loop-line.draft in
@@ -45,7 +31,15 @@ returns-in_err-placed-clause-loaded g c =
     let f = c.in_err-placed.field-0.0 in
     let p = err_from_is_err_and c.from_residual.result c.from_residual.ensures.1 in
     let unfit = read_unfit c.next_statement.new.self.place c.enter_line.result f c.in_err-placed.ensures in
+    let bad = sym unfit.0 ∙ c.enter_line.ensures.answer ∙ ap (λ z. answered (line_fault s z d.rows.items l) (tt {0})) c.loop-line.invariant.1 in
     let row = subst (λ r. Entered r (row_in s l) d.items d.rows.items n.items n.rows.items) unfit.0 c.enter_line.ensures.entered in
-    rw (p.1, p.2, unfit.1) (stopped s c.args.draft.now.items c.args.spot.now.place (lines c.args.spot.now.ahead.rest.now) c.args.draft.now.rows.items
+    let first = one_refused s c.args.draft.now.items c.args.spot.now.place (lines c.args.spot.now.ahead.rest.now) c.args.draft.now.rows.items
     c.loop-line.spot.place (lines c.loop-line.spot.ahead.rest.now) (lines c.next_statement.new.self.ahead.rest.now) d.rows.items l
-    c.loop-line.invariant.0 c.in-Some.ensures.1 _ _ f.fault row.1 c.in-Some.ensures.2)
+    c.loop-line.invariant.0 c.in-Some.ensures.0 c.in-Some.ensures.1 f.fault bad in
+    record {
+      answer = rw (p.1, p.2) (ap (λ x. Err (record { place = x; fault = f.fault })) (unfit.1 ∙ c.in-Some.ensures.2) ∙ sym (ap (λ o. answered o (tt {0})) first));
+      size = row.0 ∙ c.loop-line.invariant.1;
+      loaded = rw (p.1, p.2, unfit.1) (stopped s c.args.draft.now.items c.args.spot.now.place (lines c.args.spot.now.ahead.rest.now) c.args.draft.now.rows.items
+          c.loop-line.spot.place (lines c.loop-line.spot.ahead.rest.now) (lines c.next_statement.new.self.ahead.rest.now) d.rows.items l
+          c.loop-line.invariant.0 c.in-Some.ensures.1 _ _ f.fault row.1 c.in-Some.ensures.2);
+    }

@@ -1,5 +1,7 @@
-use Rattle.reports.proofs.Spelled.{own, reads_so}
+use Rattle.std.proofs.Common.{rules}
+use Rattle.files.proofs.Readings.{reads_file}
+use Rattle.reports.specs.Spellings.{spelling_of}
 use Rattle.reports.proofs.spelling.heads_read.Goals as goal
 
-pub returns : goal.returns
-returns c = record { own = own; reads = reads_so }
+pub returns-clause-reads : goal.returns-clause-reads
+returns-clause-reads c = λ file had. reads_file file spelling_of had (λ h k t. search rules)
