@@ -148,15 +148,11 @@ impl Kind for Dwellings {
 
     const CODES: u8 = 9;
 
-    ghost CODES = { 9 };
-
     ghost meaning = { dwellings };
 
     ghost fit = { fit compass };
 
     ghost values = { dwelling };
-
-    ghost counted = { refl };
 
     ghost lawful = { laws dwellings compass charted };
 
@@ -165,6 +161,11 @@ impl Kind for Dwellings {
     ghost composes = { Framed.composes dwellings compass charted };
 
     ghost realises = { dwellings_realise };
+
+    // In each kind: given in the trait, it would ask of every kind that its constant be the number that is meant.
+    fn count() -> u8 {
+        Self::CODES
+    }
 
     fn relation(first: Dwelling, second: Dwelling) -> u8 {
         match (first.east.cmp(&second.east), first.north.cmp(&second.north)) {

@@ -11,9 +11,6 @@ pub trait Kind {
     /// How many base relations there are, 1 to 64.
     const CODES: u8;
 
-    /// The same number, for the clauses.
-    ghost CODES: { ℕ };
-
     /// Lawful values, and the base relation that holds from one to another.
     ghost meaning: { Meaning Self.Value };
 
@@ -25,10 +22,7 @@ pub trait Kind {
 
     /// The number of base relations.
     fn count() -> u8
-        ensures { result ≡ meaning.codes }
-    {
-        Self::CODES
-    }
+        ensures { result ≡ meaning.codes };
 
     /// The code of the base relation from the first value to the second. For values that are not lawful it is the number that the
     /// kind's definition gives.
@@ -64,9 +58,6 @@ pub trait Kind {
             }
         }
     }
-
-    /// The codes are those that are meant.
-    ghost counted: { CODES ≡ meaning.codes };
 
     /// Exactly one base relation holds; code 0 from a value to itself; the converse the other way.
     ghost lawful: { Laws meaning };

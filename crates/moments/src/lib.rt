@@ -59,15 +59,11 @@ impl Kind for Moments {
 
     const CODES: u8 = 3;
 
-    ghost CODES = { 3 };
-
     ghost meaning = { moments };
 
     ghost fit = { fit line_layout };
 
     ghost values = { moment };
-
-    ghost counted = { refl };
 
     ghost lawful = { laws moments line_layout timed };
 
@@ -76,6 +72,11 @@ impl Kind for Moments {
     ghost composes = { Framed.composes moments line_layout timed };
 
     ghost realises = { moments_realise };
+
+    // In each kind: given in the trait, it would ask of every kind that its constant be the number that is meant.
+    fn count() -> u8 {
+        Self::CODES
+    }
 
     fn relation(first: Moment, second: Moment) -> u8 {
         match first.at.cmp(&second.at) {

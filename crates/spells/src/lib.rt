@@ -27,15 +27,11 @@ impl Kind for Spells {
 
     const CODES: u8 = 13;
 
-    ghost CODES = { 13 };
-
     ghost meaning = { spell_meaning };
 
     ghost fit = { fit timeline_layout };
 
     ghost values = { spell_at };
-
-    ghost counted = { refl };
 
     ghost lawful = { laws spells timeline_layout spelled };
 
@@ -44,6 +40,11 @@ impl Kind for Spells {
     ghost composes = { Framed.composes spells timeline_layout spelled };
 
     ghost realises = { spells_realise };
+
+    // In each kind: given in the trait, it would ask of every kind that its constant be the number that is meant.
+    fn count() -> u8 {
+        Self::CODES
+    }
 
     fn relation(first: Spell, second: Spell) -> u8 {
         // A case as its number, which only a cast gives.
