@@ -7,7 +7,7 @@ use Rattle.files.specs.declared.head.Head.{Head}
 use Rattle.files.specs.Faults.{SheetFault}
 use Rattle.files.specs.Heads.{is_head, head_in}
 use Rattle.files.specs.Sheets.{before, onward, head_place, located, stray_fault, next_head, class_of, state_of}
-use Rattle.files.specs.declared.class.Class.TheVariants.{StatementLine}
+use Rattle.files.specs.declared.class.Class.TheVariants.{HeadLine, StatementLine}
 use Rattle.files.specs.declared.class.State.TheVariants.{InSheet}
 use Rattle.std.proofs.lemmas.Bool.{cond-false, and_left, ne_eqb}
 
@@ -86,6 +86,17 @@ passed p q ls ms ns l s e h z =
       from = omega (arith, s.from);
       read = one_read p q ls ms ns l s.from s.read e;
     }
+
+-- where a head is come to, its place is that of the head that is looked for
+pub place_of_head : (p q : Place) (ls ms ns : List (List ℕ)) (l : List ℕ) → Same p ls q ms → ms ≡ l ∷ ns → is_head l ≡ true → record { sheet = q.sheet + 1; line = q.line + 1 } ≡ head_place p (before ls)
+place_of_head p q ls ms ns l s e h =
+    let none : before ms ≡ 0 = ap before e ∙ before_head l ns h in
+    let n : q.line + 1 ≡ p.line + before ls + 1 = omega (arith, none, s.head) in
+    ap (λ x. record { sheet = x + 1; line = q.line + 1 }) s.sheet ∙ ap (λ x. record { sheet = p.sheet + 1; line = x }) n
+
+-- the class of a line tells whether it is a head
+pub head_known : (l : List ℕ) → class_of l ≡ HeadLine → is_head l ≡ true
+head_known l e = grind (arith, nat_tests)
 
 pub no_head : (l : List ℕ) → class_of l ≡ StatementLine → is_head l ≡ false
 no_head l e = grind (arith, nat_tests)

@@ -1,5 +1,5 @@
 // Parts of a text between single bytes.
-ghost use Rattle.std.specs.Prelude.{◌≡◌, ◌+◌, length, ◌==◌, count_by, All};
+ghost use Rattle.std.specs.Prelude.{◌≡◌, ◌≢◌, ℕ, ◌+◌, ◌<◌, ◌≤◌, length, ◌==◌, count_by, All, slice_index};
 ghost use Rattle.std.specs.Iterator.{YieldsFirstRef, item_count};
 ghost use Rattle.std.specs.List.{join_with_byte};
 ghost use Rattle.files.specs.Parts.{parted, lines, left, Lacks, Lined, Split, GivesLine};
@@ -17,6 +17,15 @@ pub struct Parts<'a> {
 #[derive(Clone, Copy)]
 pub struct Lines<'a> {
     rest: &'a [u8],
+}
+
+/// Where the byte first stands in the text, or the text's length.
+pub fn first_place(text: &[u8], b: u8) -> usize
+    ensures within { result ≤ length text.now }
+    ensures before { (k : ℕ) → k < result → slice_index text.now k ≢ b }
+    ensures found { result < length text.now → slice_index text.now result ≡ b }
+{
+    text.iter().position(|x| *x == b).unwrap_or(text.len())
 }
 
 /// What stands before the first byte `by`, and what after it; the whole text where there is none.

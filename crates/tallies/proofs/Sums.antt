@@ -2,7 +2,7 @@
 use Rattle.std.proofs.Common.{◌≡◌, ℕ, ◌≤◌, List, [], ◌∷◌, length, sum_by, refl, arith}
 use Rattle.std.proofs.lemmas.List.Sums.{sum_by-cons}
 use Rattle.tallies.specs.Joins.{joined, most_penalties}
-use Rattle.tallies.specs.Weights.{adding, weight_of, WeightsAdd}
+use Rattle.tallies.specs.Weights.{adding, weight_of, WeightsAdd, WeightsCount}
 use Rattle.tallies.specs.Sums.{joined_le}
 
 module _ {P : Type 0} (f : P → ℕ) (small : (x : P) → f x ≤ 1000) where
@@ -18,3 +18,6 @@ module _ {P : Type 0} (f : P → ℕ) (small : (x : P) → f x ≤ 1000) where
 
 pub weights_add : WeightsAdd
 weights_add = joined_adding weight_of (λ c. omega arith)
+
+pub weights_count : WeightsCount
+weights_count n a b = omega arith
