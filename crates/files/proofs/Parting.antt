@@ -2,9 +2,8 @@
 use Rattle.std.proofs.Common.{◌≡◌, ◌≢◌, ℕ, suc, ◌+◌, ◌-◌, ◌<◌, ◌≤◌, false, eqb, List, [], ◌∷◌, ◌++◌, length, get_or, take, drop, Some, None, Option, sym, refl, ap, ◌∙◌, subst, arith, take-append-drop, Bor, All, count_by, false-eqb}
 use Rattle.std.specs.Option.{unwrap_or}
 use Rattle.std.specs.List.{onto_first, join_with_byte, AllByRecursion}
-use Rattle.std.proofs.ByRecursion.{All-get_or}
 use Rattle.std.proofs.lemmas.List.{drop_more, get_or-take, length-take-le, take_rest}
-use Rattle.std.proofs.lemmas.List.Elements.{All-from_get_or, All-from_recursion, recursion_from_All, All-weaker}
+use Rattle.std.proofs.lemmas.List.Elements.{All-from_get_or, All-get_or, All-from_recursion, recursion_from_All, All-weaker}
 use Rattle.std.proofs.lemmas.List.Splits.{join_with_byte-slice_split, length-slice_split, slice_split_at, slice_split_none}
 use Rattle.std.proofs.lemmas.Bool.{eq-eqb, ne_eqb, cond-false, cond_both}
 use Rattle.files.specs.Parts.{parted, lines, Lacks, Split, left}
@@ -88,7 +87,7 @@ pub parts_apart : (c : ℕ) (bs : List ℕ) → All (Lacks c) (parted c bs)
 parts_apart c bs = All-from_recursion (Lacks c) (parted c bs) (parts_lack c bs)
 
 pub part_lacks : (c : ℕ) (bs : List ℕ) (k : ℕ) → k < length (parted c bs) → Lacks c (get_or (parted c bs) k [])
-part_lacks c bs k l = All-get_or (Lacks c) (parted c bs) k [] l (parts_lack c bs)
+part_lacks c bs k l = All-get_or (Lacks c) (parted c bs) k [] l (parts_apart c bs)
 
 pub parts_joined : (c : ℕ) (bs : List ℕ) → join_with_byte c (parted c bs) ≡ bs
 parts_joined c bs = join_with_byte-slice_split c bs

@@ -49,7 +49,7 @@ impl LineFault {
         }
     }
 
-    /// The field that the fault is at, counted from 1; 0 is the line itself.
+    /// The field that the fault is at, counted from 1; 0 is the line itself, a number and no `Option`, since it is printed.
     pub fn field(&self) -> u8
         ensures { result ≡ fault_field self.now }
     {
@@ -61,7 +61,7 @@ impl LineFault {
 }
 
 /// Where a line stands: in which sheet, 0 before the first head; and its number, counted through the file from 1. Both are 0 for what
-/// is at no line.
+/// is at no line: numbers and no `Option`, since they are printed.
 #[derive(Clone, Copy, Default, PartialEq, Eq)]
 pub struct Place {
     pub sheet: u32,

@@ -13,7 +13,8 @@ pub struct Row<const CODES: usize> {
 pub fn look_up<const CODES: usize>(table: &[Row<CODES>; CODES], c: u8, d: u8) -> u64
     ensures { result ≡ entry table.now c d }
 {
-    // A match, since in code over a const parameter nothing is known in a proof of what a closure answers.
+    // A match: a chain with a closure was tried, and its proof did not close, since in code over a const parameter nothing is known of
+    // what a closure answers.
     match table.get(usize::from(c)) {
         Some(row) => row.masks.get(usize::from(d)).copied().unwrap_or(0),
         None => 0,

@@ -37,7 +37,8 @@ impl<const MARKS: usize> Axis<MARKS> {
             before: 0,
             after: 0,
         };
-        // A match, since in code over a const parameter nothing is known in a proof of what a closure answers.
+        // A match: a chain with a closure was tried, and its proof did not close, since in code over a const parameter nothing is known
+        // of what a closure answers.
         match self.orders.get(s) {
             Some(row) => row.get(t).copied().unwrap_or(none),
             None => none,
@@ -70,8 +71,8 @@ impl<const MARKS: usize> Axis<MARKS> {
         }
     }
 
-    // How many marks of item k stand before mark y in the scenario. It is counted in a loop, since in code over a const parameter
-    // nothing is known in a proof of what a closure answers.
+    // How many marks of item k stand before mark y in the scenario. It is counted in a loop: `filter` and
+    // `count` were tried, and the proof did not close, for the same reason.
     fn preceding(&self, scenario: &[u8], k: u8, y: Mark) -> u32
         ensures is { result ≡ count_by (λ x. is_lt (stands (in_scenario (drawn self.now.orders) scenario.now) x y)) (of_item k MARKS []) }
         ensures few { result ≤ 255 }
@@ -92,7 +93,7 @@ impl<const MARKS: usize> Axis<MARKS> {
         ensures compares { RankLemma (ℕ × ℕ) }
         ensures is { result ≡ mark_rank (drawn self.now.orders) MARKS items scenario.now i t }
     {
-        // A loop, for the same reason.
+        // A loop: `map` and `sum` were tried, and the proof did not close, for the same reason.
         let mut sum = 0;
         for k in 0..items {
             sum += self.preceding(scenario, k, (i, usize::from(t)));

@@ -27,7 +27,8 @@ fn settling(heap: Global, steps: u32) -> Result<Vec<Call>, AllocError>
     ensures { IfOk result (λ v. v.items ≡ calls_of steps) }
 {
     let mut script = vec![in heap; Call::Close, Call::Search(steps), Call::Show(12)]?;
-    // A loop, since nothing is known in a proof of a closure that makes a case of an enum.
+    // A loop: `extend` over `map` was tried, and its proof did not close, since nothing is known of what a closure answers that makes a
+    // case of an enum.
     for person in 1..=20 {
         script.push(Call::Charge(person))?;
     }

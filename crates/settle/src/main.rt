@@ -71,6 +71,7 @@ fn settle<K: PrintedKind, T: PrintedTally>(
     let heap = rt.alloc();
     let mut draft = Draft::<K, T>::new(heap)?;
     reader.load(&mut draft)?;
+    // A buffer and how much of it is the report: by the rule for reports their calls put texts into buffers of their callers.
     let mut buffer = [0u8; LONGEST_REPORT];
     let length = account(heap, number, draft, &mut buffer)?;
     Ok(print_bytes(rt, &buffer[..length])?)
