@@ -1,4 +1,4 @@
-use Rattle.std.proofs.Common.{ℕ, arith}
+use Rattle.std.proofs.Common.{rules, ℕ, arith}
 use Rattle.points.specs.Points.{is_lt}
 use Rattle.points.specs.Marks.{stands, in_scenario, drawn}
 use Rattle.points.proofs.Ranked.{rank_lemma}
@@ -14,3 +14,10 @@ loop-k-preserved g c = (
 
 pub returns-clause-compares : goal.returns-clause-compares
 returns-clause-compares g c = rank_lemma
+
+-- These two are given, since the searches for them take 6 s where they fail.
+pub loop-k-init : goal.loop-k-init
+loop-k-init g c = search rules fits 100
+
+pub returns-clause-is : goal.returns-clause-is
+returns-clause-is g c = search rules fits 100

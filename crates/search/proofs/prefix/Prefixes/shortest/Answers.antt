@@ -1,5 +1,5 @@
 -- One more prefix with each turn.
-use Rattle.std.proofs.Common.{◌≡◌, ◌+◌, sym, ◌∙◌, arith, below_more}
+use Rattle.std.proofs.Common.{rules, ◌≡◌, ◌+◌, sym, ◌∙◌, arith, below_more}
 use Rattle.points.specs.Scenarios.{pairs}
 use Rattle.search.specs.Closed.{rows_of, rules_of}
 use Rattle.rules.specs.Steps.{refuted}
@@ -31,3 +31,10 @@ returns-clause-is g c =
     let up : pairs c.args.self.now.tables.now.sheet.now.items + 1 ≡ 0 + (pairs c.args.self.now.tables.now.sheet.now.items + 1) = omega arith in
     up ∙ sym (first_past (refuted r sheet.items (rows_of sheet) c.args.best c.args.self.now.cursor.now) (pairs sheet.items + 1) 0
     (λ z lo l. c.loop-length.invariant.stands z (omega (arith, l, e))))
+
+-- These two are given, since the searches for them take 17 s where they fail.
+pub loop-length-preserved : goal.loop-length-preserved
+loop-length-preserved g c = search rules fits 400
+
+pub returns-else-is_refuted-clause-known : goal.returns-else-is_refuted-clause-known
+returns-else-is_refuted-clause-known g c = search rules fits 400

@@ -114,3 +114,7 @@ returns-in_ok-filled-in-None-clause-keeps g c =
       known = record { long = known.long; costs = λ z l. absurd (omega (arith, l)); stands = λ z l. absurd (omega (arith, l)) };
       blank = c.in_ok-filled-in-None.ensures.blank;
     }
+
+-- Given, since the search for it takes 7 s where it fails.
+pub rise-requires-clause-blank : goal.rise-requires-clause-blank
+rise-requires-clause-blank g c = c.requires.keeps.blank

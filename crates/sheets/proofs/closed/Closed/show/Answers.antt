@@ -36,3 +36,7 @@ returns g c =
       settles = shown_settles kind.meaning g.met.K.Kind.lawful kind.fit j g.met.T.Joins.monoid order g.met.T.Tally.ranks s new shown sheet c.cost.ensures floor done
           (realised s.some s.few enough sheet.sound.fitting);
     }
+
+-- Given, since the search for it takes 9 s where it fails.
+pub returns-then-page-from-clause-answers : goal.returns-then-page-from-clause-answers
+returns-then-page-from-clause-answers g c = search rules fits 100

@@ -1,5 +1,6 @@
 -- A draft stays sound when a row is given another weight.
 use Rattle.std.proofs.Common.{arith, rules}
+use Rattle.std.proofs.lemmas.Grind.{common_steps}
 use Rattle.rules.proofs.Properly.{proper_set, proper_read, sound_weight}
 use Rattle.sheets.proofs.held.Draft.reweigh.Goals as goal
 
@@ -12,3 +13,11 @@ invariant_of-self g c =
     let was = proper_read draft.items draft.rows.items _ row (omega arith) c.entry_mut.ensures.value draft.sound in
     let is = sound_weight draft.items row c.args.weight (search rules) (search rules) was in
     record { some = draft.some; few = draft.few; room = draft.room; sound = proper_set draft.items draft.rows.items _ _ draft.sound is }
+
+-- Given, since the search for it takes 6 s where it fails.
+pub returns-then-not-contains : goal.returns-then-not-contains
+returns-then-not-contains g c = search rules fits 400
+
+-- Given, since the search for it takes 5 s where it fails.
+pub returns : goal.returns
+returns g c = grind (arith, common_steps)

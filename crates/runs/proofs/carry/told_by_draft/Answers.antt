@@ -1,0 +1,12 @@
+use Rattle.std.proofs.Common.{rules}
+use Rattle.runs.proofs.carry.told_by_draft.Goals as goal
+
+-- These three are given, since the searches for them take 11 to 13 s where they fail.
+pub returns-clause-carries : goal.returns-clause-carries
+returns-clause-carries g c = search rules fits 400
+
+pub returns-in_err-strike-in-Strike-clause-carries : goal.returns-in_err-strike-in-Strike-clause-carries
+returns-in_err-strike-in-Strike-clause-carries g c = search rules fits 100
+
+pub returns-in_err-reweigh-in-Reweigh-clause-carries : goal.returns-in_err-reweigh-in-Reweigh-clause-carries
+returns-in_err-reweigh-in-Reweigh-clause-carries g c = search rules fits 100
