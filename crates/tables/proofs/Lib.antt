@@ -7,3 +7,4 @@ pub mod Lacking
 pub mod Spoken
 pub mod Readings
 pub mod Rowed
+pub mod Completed

@@ -1,7 +1,8 @@
 -- Published tables of compositions and converses, and whether they agree with a kind.
-use Rattle.std.specs.Prelude.{◌≡◌, ℕ, ◌<◌, List, Some, length, slice_index_or}
+use Rattle.std.specs.Prelude.{◌≡◌, ℕ, ◌<◌, ◌↔◌, ◌⊎◌, List, Some, true, length, slice_index_or}
 use Rattle.std.specs.Borrow.{Bor}
-use Rattle.std.specs.List.{All}
+use Rattle.std.specs.List.{All, Any}
+use Rattle.points.specs.Sets.{has}
 use Rattle.kinds.specs.Meaning.{Meaning}
 use Rattle.kinds.specs.Composition.{Composition}
 use Rattle.tables.specs.Letters.{Entered, meant_code}
@@ -10,6 +11,12 @@ use Rattle.tables.specs.Relations.{Single}
 use Rattle.tables.specs.declared.published.Entries.{Entries}
 use Rattle.tables.specs.declared.published.Turned.{Turned}
 use Rattle.tables.specs.declared.comparison.Table.{Table}
+
+-- A published table is complete: each base relation of the kind is in the set of those left out, or the letter of an item stands for it;
+-- and nothing else is in that set, or is what a letter of an item stands for.
+abbrev pub Complete : {V A : Type 0} → Meaning V → List (List ℕ) → List Letter → ℕ → (A → List ℕ) → List A → Type 0
+Complete m words letters left_out letter_of items =
+    (c : ℕ) → (c < m.codes) ↔ ((has left_out c ≡ true) ⊎ Any (λ x. meant_code words letters (letter_of x) ≡ Some c) items)
 
 -- The entry stands for the composition of r and the base relation that the letter of its column stands for.
 abbrev pub EntryAgrees : {V : Type 0} → Meaning V → List (List ℕ) → List Letter → ℕ → List ℕ → List ℕ → Type 0

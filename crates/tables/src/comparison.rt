@@ -3,7 +3,7 @@ ghost use Rattle.std.specs.Prelude.{◌≡◌, ℕ, ◌==◌, ◌↔◌, Bool, D
 ghost use Rattle.std.specs.List.{All};
 ghost use Rattle.kinds.specs.Composition.{Composition};
 ghost use Rattle.tables.specs.Letters.{meant_code};
-ghost use Rattle.tables.specs.Published.{ConverseAgrees, EntriesAgree, IdempotentAgrees, NeutralAgrees, TableAgrees};
+ghost use Rattle.tables.specs.Published.{Complete, ConverseAgrees, EntriesAgree, IdempotentAgrees, NeutralAgrees, TableAgrees};
 ghost use Rattle.tables.specs.Relations.{Single, Whole};
 ghost use Rattle.tables.specs.Scores.{score_after};
 
@@ -112,6 +112,7 @@ impl Comparison {
     ) -> anyhow::Result<()>
         ensures full { IsOk result → length entries.now ≡ length table.entry.rows.now }
         ensures counted { IfOk result (λ _. (self.new.score.lacking ≡ 0) ↔ ((self.old.score.lacking ≡ 0) × EntriesAgree K.Kind.meaning K.words table.entry r entries.now)) }
+        ensures kept { IfOk result (λ _. self.new.met ≡ self.old.met) }
     {
         if entries.len() != table.rows.len() {
             return Err(anyhow!("a published row has not one entry for each column"));
@@ -146,7 +147,8 @@ fn hold_converses<K: Kind + Notation>(
     letters: Letters,
     pairs: &[Turned],
 ) -> anyhow::Result<u32>
-    ensures { IfOk result (λ differing. (differing ≡ 0) ↔ All (ConverseAgrees K.Kind.meaning K.words letters.entry.0.now) pairs.now) }
+    ensures agree { IfOk result (λ differing. (differing ≡ 0) ↔ All (ConverseAgrees K.Kind.meaning K.words letters.entry.0.now) pairs.now) }
+    ensures complete { IfOk result (λ _. Complete K.Kind.meaning K.words letters.entry.0.now 0 (λ turned. turned.0.now) pairs.now) }
 {
     let mut comparison = Comparison::default();
     for Turned(relation, converse) in pairs {
@@ -163,7 +165,8 @@ fn hold_compositions<K: Kind + Notation>(
     table: Table,
     left_out: u64,
 ) -> anyhow::Result<u32>
-    ensures { IfOk result (λ differing. (differing ≡ 0) ↔ TableAgrees K.Kind.meaning K.words table.entry) }
+    ensures agree { IfOk result (λ differing. (differing ≡ 0) ↔ TableAgrees K.Kind.meaning K.words table.entry) }
+    ensures complete { IfOk result (λ _. Complete K.Kind.meaning K.words table.entry.letters.0.now left_out (λ row. row.letter.now) table.entry.rows.now) }
 {
     let mut comparison = Comparison {
         met: left_out,
@@ -183,7 +186,8 @@ fn hold_identity<K: Kind + Notation>(
     identity: u8,
     letter: &str,
 ) -> anyhow::Result<u32>
-    ensures { IfOk result (λ differing. (differing ≡ 0) ↔ (IdempotentAgrees K.Kind.meaning K.words table.entry.letters.0.now identity letter.now × All (λ row. NeutralAgrees K.Kind.meaning K.words table.entry.letters.0.now identity row.letter.now) table.entry.rows.now)) }
+    ensures agree { IfOk result (λ differing. (differing ≡ 0) ↔ (IdempotentAgrees K.Kind.meaning K.words table.entry.letters.0.now identity letter.now × All (λ row. NeutralAgrees K.Kind.meaning K.words table.entry.letters.0.now identity row.letter.now) table.entry.rows.now)) }
+    ensures complete { IfOk result (λ _. (one : ℕ) × Single identity one × Complete K.Kind.meaning K.words table.entry.letters.0.now one (λ row. row.letter.now) table.entry.rows.now) }
 {
     let mut comparison = Comparison {
         met: single(identity),
