@@ -8,3 +8,5 @@ pub mod Spoken
 pub mod Readings
 pub mod Rowed
 pub mod Completed
+pub mod Looked
+pub mod Charted

@@ -1,9 +1,11 @@
 // Published tables, held against ours.
-ghost use Rattle.std.specs.Prelude.{◌≡◌, ℕ, ◌==◌, ◌↔◌, Bool, Decides, bit_or, length, IfOk, IsErr, IsOk, MatchOption};
+ghost use Rattle.std.specs.Prelude.{find, position, option_copied, ◌≡◌, ℕ, ◌==◌, ◌↔◌, Bool, Decides, bit_or, length, IfOk, IsErr, IsOk, MatchOption};
 ghost use Rattle.std.specs.List.{All};
+ghost use Rattle.std.specs.Str.{bytes_eq};
 ghost use Rattle.kinds.specs.Composition.{Composition};
+ghost use Rattle.dwellings.specs.Dwellings.{dwellings, dwelling_words};
 ghost use Rattle.tables.specs.Letters.{meant_code};
-ghost use Rattle.tables.specs.Published.{Complete, ConverseAgrees, EntriesAgree, IdempotentAgrees, NeutralAgrees, TableAgrees};
+ghost use Rattle.tables.specs.Published.{ChartAgrees, Complete, Composes, ComposesByParts, ConverseAgrees, EntriesAgree, IdempotentAgrees, NeutralAgrees, TableAgrees, Uncomposed, UncomposedByParts};
 ghost use Rattle.tables.specs.Relations.{Single, Whole};
 ghost use Rattle.tables.specs.Scores.{score_after};
 
@@ -32,11 +34,27 @@ struct Table<'a> {
     rows: &'a [Entries],
 }
 
-impl Table<'_> {
+impl<'a> Table<'a> {
+    /// The row of a letter, or none.
+    fn row(self, letter: &str) -> Option<&'a Entries>
+        ensures { option_copied result ≡ find (λ row. bytes_eq row.letter.now letter.now) self.entry.rows.now }
+    {
+        self.rows.iter().find(|row| row.letter == letter)
+    }
+
+    /// The place of the column of a letter, or none.
+    fn column(self, letter: &str) -> Option<usize>
+        ensures { result ≡ position (λ row. bytes_eq row.letter.now letter.now) self.entry.rows.now }
+    {
+        self.rows.iter().position(|row| row.letter == letter)
+    }
+
     /// The published composition of two relations, or none where it cannot be read.
-    fn composition<K: Notation>(self, first: &str, second: &str) -> Option<u64> {
-        let row = self.rows.iter().find(|row| row.letter == first)?;
-        let column = self.rows.iter().position(|row| row.letter == second)?;
+    fn composition<K: Notation>(self, first: &str, second: &str) -> Option<u64>
+        ensures { MatchOption result (Uncomposed K.words self.entry first.now second.now) (λ set. Composes K.words self.entry first.now second.now set) }
+    {
+        let row = self.row(first)?;
+        let column = self.column(second)?;
         self.letters.set::<K>(row.entries.get(column)?)
     }
 }
@@ -204,34 +222,43 @@ fn hold_identity<K: Kind + Notation>(
     comparison.close::<K>(rt, "identity")
 }
 
+/// What is published of the cardinal directions: their letters, the directions by their parts, and the table by which parts compose.
+#[derive(Clone, Copy)]
+struct Chart<'a> {
+    letters: Letters<'a>,
+    directions: &'a [Direction],
+    points: Table<'a>,
+}
+
 /// The published composition of two directions: those whose two parts are each in the composition of the parts.
-fn composed_directions(
-    letters: Letters,
-    points: Table,
-    first: &Direction,
-    second: &Direction,
-) -> Option<u64> {
+fn composed_directions(chart: Chart, first: &Direction, second: &Direction) -> Option<u64>
+    ensures { MatchOption result (UncomposedByParts chart.entry first.now second.now) (λ set. ComposesByParts chart.entry first.now second.now set) }
+{
+    let points = chart.points;
     let east = points.composition::<Moments>(first.eastward, second.eastward)?;
     let north = points.composition::<Moments>(first.northward, second.northward)?;
     let mut found = 0;
-    for direction in &DIRECTIONS {
+    for direction in chart.directions {
         let eastward = points.letters.code::<Moments>(direction.eastward)?;
         let northward = points.letters.code::<Moments>(direction.northward)?;
         if contains(east, eastward) && contains(north, northward) {
-            found |= letters.set::<Dwellings>(direction.letter)?;
+            found |= chart.letters.set::<Dwellings>(direction.letter)?;
         }
     }
     Some(found)
 }
 
 /// Holds the published compositions of the cardinal directions against ours.
-fn hold_directions(rt: HostRuntime, letters: Letters, points: Table) -> anyhow::Result<u32> {
+fn hold_directions(rt: HostRuntime, chart: Chart) -> anyhow::Result<u32>
+    ensures agree { IfOk result (λ differing. (differing ≡ 0) ↔ ChartAgrees chart.entry) }
+    ensures complete { IfOk result (λ _. Complete dwellings dwelling_words chart.entry.letters.0.now 0 (λ direction. direction.letter.now) chart.entry.directions.now) }
+{
     let mut comparison = Comparison::default();
-    for first in &DIRECTIONS {
-        let r = comparison.meet::<Dwellings>(letters, first.letter)?;
-        for second in &DIRECTIONS {
-            let s = letters.read::<Dwellings>(second.letter)?;
-            let published = composed_directions(letters, points, first, second);
+    for first in chart.directions {
+        let r = comparison.meet::<Dwellings>(chart.letters, first.letter)?;
+        for second in chart.directions {
+            let s = chart.letters.read::<Dwellings>(second.letter)?;
+            let published = composed_directions(chart, first, second);
             comparison.hold_composition::<Dwellings>(rt, (r, s), published)?;
         }
     }
@@ -249,6 +276,11 @@ pub(crate) fn hold_all(rt: HostRuntime) -> anyhow::Result<u32> {
         rows: &ALLEN_COMPOSITIONS,
     };
     let directions = Letters(&DIRECTION_LETTERS);
+    let chart = Chart {
+        letters: directions,
+        directions: &DIRECTIONS,
+        points,
+    };
     let identity = intervals.letters.read::<Spells>(ALLEN_IDENTITY)?;
     Ok(total(&[
         hold_converses::<Moments>(rt, points.letters, &POINT_CONVERSES)?,
@@ -257,7 +289,7 @@ pub(crate) fn hold_all(rt: HostRuntime) -> anyhow::Result<u32> {
         hold_compositions::<Spells>(rt, intervals, single(identity))?,
         hold_identity::<Spells>(rt, intervals, identity, ALLEN_IDENTITY)?,
         hold_converses::<Dwellings>(rt, directions, &DIRECTION_CONVERSES)?,
-        hold_directions(rt, directions, points)?,
+        hold_directions(rt, chart)?,
     ]))
 }
 
