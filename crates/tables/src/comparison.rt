@@ -5,6 +5,7 @@ ghost use Rattle.std.specs.Str.{bytes_eq};
 ghost use Rattle.kinds.specs.Composition.{Composition};
 ghost use Rattle.dwellings.specs.Dwellings.{dwellings, dwelling_words};
 ghost use Rattle.tables.specs.Letters.{meant_code};
+ghost use Rattle.tables.specs.Literature.{LiteratureAgrees, LiteratureComplete};
 ghost use Rattle.tables.specs.Published.{ChartAgrees, Complete, Composes, ComposesByParts, ConverseAgrees, EntriesAgree, IdempotentAgrees, NeutralAgrees, TableAgrees, Uncomposed, UncomposedByParts};
 ghost use Rattle.tables.specs.Relations.{Single, Whole};
 ghost use Rattle.tables.specs.Scores.{score_after};
@@ -265,30 +266,65 @@ fn hold_directions(rt: HostRuntime, chart: Chart) -> anyhow::Result<u32>
     comparison.close::<Dwellings>(rt, "composition")
 }
 
-/// Holds our tables against all published ones; how many entries differ.
-pub(crate) fn hold_all(rt: HostRuntime) -> anyhow::Result<u32> {
+/// What is published of the three kinds.
+#[derive(Clone, Copy)]
+pub(crate) struct Literature<'a> {
+    points: Table<'a>,
+    point_converses: &'a [Turned],
+    intervals: Table<'a>,
+    /// The letter of the identity of intervals, which their table leaves out.
+    identity: &'a str,
+    interval_letters: Letters<'a>,
+    interval_converses: &'a [Turned],
+    chart: Chart<'a>,
+    direction_converses: &'a [Turned],
+}
+
+/// The published tables that this program has. They are statics with references in them, which no clause can name.
+pub(crate) fn published_tables() -> Literature<'static> {
     let points = Table {
         letters: Letters(&POINT_LETTERS),
         rows: &POINT_COMPOSITIONS,
     };
-    let intervals = Table {
-        letters: Letters(&ALLEN_LETTERS),
-        rows: &ALLEN_COMPOSITIONS,
-    };
-    let directions = Letters(&DIRECTION_LETTERS);
-    let chart = Chart {
-        letters: directions,
-        directions: &DIRECTIONS,
+    Literature {
         points,
-    };
-    let identity = intervals.letters.read::<Spells>(ALLEN_IDENTITY)?;
+        point_converses: &POINT_CONVERSES,
+        intervals: Table {
+            letters: Letters(&ALLEN_LETTERS),
+            rows: &ALLEN_COMPOSITIONS,
+        },
+        identity: ALLEN_IDENTITY,
+        interval_letters: Letters(&INTERVAL_LETTERS),
+        interval_converses: &INTERVAL_CONVERSES,
+        chart: Chart {
+            letters: Letters(&DIRECTION_LETTERS),
+            directions: &DIRECTIONS,
+            points,
+        },
+        direction_converses: &DIRECTION_CONVERSES,
+    }
+}
+
+/// Holds our tables against all published ones; how many entries differ.
+pub(crate) fn hold_all(rt: HostRuntime, literature: Literature) -> anyhow::Result<u32>
+    ensures agree { IfOk result (λ differing. (differing ≡ 0) ↔ LiteratureAgrees literature.entry) }
+    ensures complete { IfOk result (λ _. LiteratureComplete literature.entry) }
+{
+    let points = literature.points;
+    let intervals = literature.intervals;
+    let chart = literature.chart;
+    let identity = intervals.letters.read::<Spells>(literature.identity)?;
     Ok(total(&[
-        hold_converses::<Moments>(rt, points.letters, &POINT_CONVERSES)?,
+        hold_converses::<Moments>(rt, points.letters, literature.point_converses)?,
         hold_compositions::<Moments>(rt, points, 0)?,
-        hold_converses::<Spells>(rt, Letters(&INTERVAL_LETTERS), &INTERVAL_CONVERSES)?,
+        hold_converses::<Spells>(
+            rt,
+            literature.interval_letters,
+            literature.interval_converses,
+        )?,
         hold_compositions::<Spells>(rt, intervals, single(identity))?,
-        hold_identity::<Spells>(rt, intervals, identity, ALLEN_IDENTITY)?,
-        hold_converses::<Dwellings>(rt, directions, &DIRECTION_CONVERSES)?,
+        hold_identity::<Spells>(rt, intervals, identity, literature.identity)?,
+        hold_converses::<Dwellings>(rt, chart.letters, literature.direction_converses)?,
         hold_directions(rt, chart)?,
     ]))
 }
