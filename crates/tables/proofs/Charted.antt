@@ -1,9 +1,8 @@
 -- Compositions of directions by points on both axes.
-use Rattle.std.proofs.Common.{◌≡◌, ℕ, Bool, refl, ◌<◌, ◌+◌, ◌⊎◌, true, false, Option, None, Some, MatchOption, Decides, List, Bor, length, get_or, sym, ◌∙◌, subst, inl, inr}
+use Rattle.std.proofs.Common.{◌≡◌, ℕ, Bool, refl, ◌<◌, ◌+◌, ◌⊎◌, true, false, Option, None, Some, MatchOption, Decides, List, [], Bor, length, get_or, sym, ◌∙◌, subst, inl, inr}
 use Rattle.std.specs.List.{Any}
 use Rattle.std.proofs.lemmas.Bool.{both_ways}
 use Rattle.std.proofs.lemmas.Bool.Decides.{Decides-like, same_from_decides}
-use Rattle.std.proofs.lemmas.List.{get_or_default}
 use Rattle.std.proofs.lemmas.Option.{same_Some}
 use lib.Bits.{bit_or}
 use Rattle.points.specs.Sets.{has}
@@ -22,6 +21,10 @@ use Rattle.tables.proofs.Completed.{AnyBelow, any_cases, any_earlier, any_here, 
 use Rattle.tables.proofs.Agreeing.{same_members}
 use Rattle.tables.proofs.Lacking.{Counts, counts_as, counts_one}
 use Rattle.tables.proofs.Readings.{entered_decided}
+
+-- where there is no direction
+abbrev pub no_direction : Direction
+no_direction = record { letter = record { ref_ptr = (0, 0); now = [] }; eastward = record { ref_ptr = (0, 0); now = [] }; northward = record { ref_ptr = (0, 0); now = [] } }
 
 module _ (chart : Chart) where
   -- a part that was read is in no set that lacks it
@@ -105,10 +108,3 @@ directions_counted chart first second r s is_r is_s old new (Some set) composed 
         let same_s : s' ≡ s = same_Some s' s (sym is_s' ∙ is_s) in
         subst (λ (n : ℕ). Composition dwellings r s n) (by_parts_same chart first second set' set composed' composed)
         (subst (λ (n : ℕ). Composition dwellings r n set') same_s (subst (λ (n : ℕ). Composition dwellings n s' set') same_r ours))
-
--- what holds of two directions by their places holds of them whatever would stand beyond the list
-pub at_places : (P : Direction → Direction → Type 0) (directions : List Direction) (k j : ℕ) (d : Direction) → k < length directions → j < length directions →
-    P (get_or directions k d) (get_or directions j d) → (first second : Direction) → P (get_or directions k first) (get_or directions j second)
-at_places P directions k j d l l' p first second =
-    subst (λ (x : Direction). P x (get_or directions j second)) (get_or_default directions k d first l)
-    (subst (λ (x : Direction). P (get_or directions k d) x) (get_or_default directions j d second l') p)

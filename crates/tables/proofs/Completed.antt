@@ -1,5 +1,5 @@
 -- Which base relations were met: the members of a set that grows by one relation with each item.
-use Rattle.std.proofs.Common.{◌≡◌, ℕ, ◌<◌, ◌+◌, ◌≤◌, ◌⊎◌, true, Option, None, Some, Decides, List, length, get_or, sym, refl, ◌∙◌, subst, inl, inr, arith}
+use Rattle.std.proofs.Common.{◌≡◌, ℕ, ◌<◌, ◌+◌, ◌≤◌, ◌⊎◌, true, Some, Decides, List, length, get_or, sym, ◌∙◌, subst, inl, inr, arith}
 use Rattle.std.proofs.lemmas.Bool.{cases_order, or_cases, or_left, or_right}
 use Rattle.std.proofs.lemmas.List.{get_or_default}
 use Rattle.std.proofs.lemmas.Option.{option_and_then_some, same_Some}
@@ -92,8 +92,3 @@ module _ {X V : Type 0} (m : Meaning V) (words : List (List ℕ)) (letters : Lis
   met_all n set is met whole c =
       let all : MetBelow (length items) set = subst (λ (k : ℕ). MetBelow k set) is met in
       (λ l. (all c).0 ((whole c).1 l), λ any. (whole c).0 ((all c).1 any))
-
--- what follows from any set that was read
-pub read_then : {A : Type 0} (o : Option ℕ) → (o ≡ None → ⊥) → ((set : ℕ) → o ≡ Some set → A) → A
-read_then None some so = absurd (some refl)
-read_then (Some set) some so = so set refl

@@ -4,6 +4,7 @@ use Rattle.std.specs.List.{All}
 use Rattle.dwellings.specs.Dwellings.{dwellings, dwelling_words}
 use Rattle.tables.specs.Published.{DirectionsAgree}
 use Rattle.tables.specs.declared.published.Direction.{Direction}
+use Rattle.tables.proofs.Charted.{no_direction}
 use Rattle.tables.proofs.Lacking.{Counts}
 use Rattle.tables.proofs.Completed.{MetBelow}
 use Rattle.tables.proofs.comparison.hold_directions.Given as goal
@@ -17,5 +18,5 @@ invariant-loop-first l =
 abbrev pub invariant-loop-second : goal.invariant-loop-second
 invariant-loop-second l =
     Counts l.initial.comparison.score.lacking l.comparison.score.lacking
-    ((j : ℕ) → j < l.second-index → (first second : Direction) → DirectionsAgree l.chart (get_or l.chart.directions.now l.first-index first) (get_or l.chart.directions.now j second))
+    ((j : ℕ) → j < l.second-index → (second : Direction) → DirectionsAgree l.chart (get_or l.chart.directions.now l.first-index no_direction) (get_or l.chart.directions.now j second))
     × (l.comparison.met ≡ l.initial.comparison.met)
