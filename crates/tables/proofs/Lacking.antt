@@ -1,5 +1,7 @@
 -- Scores that lack nothing: what is known of a count that grows where something does not hold.
-use Rattle.std.proofs.Common.{◌≡◌, ℕ, ◌+◌, ◌<◌, Bool, true, false, Decides, ◌↔◌, sym, refl, subst, inl, inr, arith}
+use Rattle.std.proofs.Common.{◌≡◌, ℕ, ◌+◌, ◌<◌, Bool, true, false, List, Decides, ◌↔◌, get_or, length, sym, refl, subst, inl, inr, arith}
+use Rattle.std.specs.List.{All}
+use Rattle.std.proofs.lemmas.List.{get_or_default}
 use Rattle.std.proofs.lemmas.Bool.{cases_order}
 use Rattle.tables.specs.Scores.{score_after}
 use Rattle.tables.specs.declared.score.Score.{Score}
@@ -35,3 +37,18 @@ counts_more a b c P n before here = (forth, back)
 -- the same, of what is said otherwise
 pub counts_as : (a b : ℕ) {P Q : Type 0} → (P → Q) → (Q → P) → Counts a b P → Counts a b Q
 counts_as a b to from counts = (λ zero. let h = counts.0 zero in (h.0, to h.1), λ both. counts.1 (both.0, from both.1))
+
+-- one more item of a list is counted in
+pub counts_item : {A : Type 0} (P : A → Type 0) (xs : List A) (n : ℕ) (d : A) (a b c : ℕ) → n < length xs →
+    Counts a b ((k : ℕ) → k < n → (x : A) → P (get_or xs k x)) → Counts b c (P (get_or xs n d)) → Counts a c ((k : ℕ) → k < n + 1 → (x : A) → P (get_or xs k x))
+counts_item {A} P xs n d a b c within before here =
+    counts_more a b c (λ k. (x : A) → P (get_or xs k x)) n before
+    (counts_as b c (λ p x. subst P (get_or_default xs n d x within) p) (λ all. all d) here)
+
+-- all items of a list are counted in
+pub counts_all : {A : Type 0} (P : A → Type 0) (xs : List A) (n lacking differing : ℕ) → n ≡ length xs → differing ≡ lacking →
+    Counts 0 lacking ((k : ℕ) → k < n → (x : A) → P (get_or xs k x)) → (differing ≡ 0) ↔ All P xs
+counts_all P xs n lacking differing is same counts = (
+  λ zero k d l. (counts.0 (omega arith)).1 k (omega arith) d,
+  λ all. omega (arith, same, counts.1 (refl, λ k l d. all k d (omega arith))),
+)

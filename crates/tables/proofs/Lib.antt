@@ -7,3 +7,6 @@ pub mod Lacking
 pub mod Spoken
 pub mod Readings
 pub mod Rowed
+pub mod Completed
+pub mod Looked
+pub mod Charted

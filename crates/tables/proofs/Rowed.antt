@@ -1,5 +1,5 @@
 -- Entries of published tables, counted in.
-use Rattle.std.proofs.Common.{◌≡◌, ℕ, ◌<◌, eqb, Option, None, Some, Ok, Result, MatchOption, IsErr, Bor, Bool, List, Decides, get_or, sym, refl, subst}
+use Rattle.std.proofs.Common.{◌≡◌, ℕ, ◌<◌, eqb, Option, None, Some, Ok, Result, MatchOption, IsErr, Bor, Bool, List, [], Decides, ap, get_or, sym, refl, subst}
 use Rattle.std.proofs.lemmas.Bool.{false≢true}
 use Rattle.points.specs.Sets.{has}
 use Rattle.kinds.specs.Meaning.{Meaning, Fits}
@@ -8,6 +8,7 @@ use Rattle.tables.specs.declared.published.Letter.{Letter}
 use Rattle.tables.specs.declared.published.Entries.{Entries}
 use Rattle.tables.specs.declared.published.Turned.{Turned}
 use Rattle.tables.specs.declared.comparison.Table.{Table}
+use Rattle.tables.specs.declared.comparison.Comparison.{Comparison}
 use Rattle.tables.specs.declared.score.Score.{Score}
 use Rattle.tables.specs.Letters.{Entered, Unread, meant_code}
 use Rattle.tables.specs.Published.{ConverseAgrees, EntriesAgree, EntryAgrees, NeutralAgrees, RowAgrees}
@@ -51,6 +52,25 @@ module _ {V : Type 0} (m : Meaning V) (words : List (List ℕ)) (letters : List 
       from all =
           subst (λ (x : Entries). EntryAgrees m words letters r x.letter.now entry.now) (sym (first column))
           (subst (λ (x : Bor (List ℕ)). EntryAgrees m words letters r (get_or rows k column).letter.now x.now) (sym (second entry)) (all column entry))
+
+-- where there is no row
+abbrev pub no_row : Entries
+no_row = record { letter = record { ref_ptr = (0, 0); now = [] }; entries = record { ref_ptr = (0, 0); now = [] } }
+
+-- what follows from any set that was read
+pub read_then : {A : Type 0} (read : Option ℕ) → (read ≡ None → ⊥) → ((set : ℕ) → read ≡ Some set → A) → A
+read_then None some so = absurd (some refl)
+read_then (Some set) some so = so set refl
+
+module _ {C : ℕ → Type 0} (old new : Comparison) (read : Option ℕ)
+    (counted : (set : ℕ) → read ≡ Some set → (agrees : Bool) × Decides agrees (C set) × (new ≡ record old { score = score_after old.score agrees })) where
+  -- the score after an entry that was held
+  pub held_score : (set : ℕ) → read ≡ Some set → (agrees : Bool) × Decides agrees (C set) × (new.score ≡ score_after old.score agrees)
+  held_score set is = let (agrees, decides, after) = counted set is in (agrees, decides, ap (λ (x : Comparison). x.score) after)
+
+  -- the relations met stay
+  pub held_met : (read ≡ None → ⊥) → new.met ≡ old.met
+  held_met some = read_then read some (λ set is. let (agrees, decides, after) = counted set is in ap (λ (x : Comparison). x.met) after)
 
 -- the code of a letter that was read
 pub code_read : {E : Type 0} (o : Option ℕ) (s : ℕ) (read : Result ℕ E) → MatchOption o (IsErr read) (λ code. read ≡ Ok code) → read ≡ Ok s → o ≡ Some s

@@ -4,3 +4,4 @@ pub mod Scores
 pub mod Letters
 pub mod Laws
 pub mod Published
+pub mod Literature

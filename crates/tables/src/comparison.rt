@@ -1,9 +1,12 @@
 // Published tables, held against ours.
-ghost use Rattle.std.specs.Prelude.{◌≡◌, ℕ, ◌==◌, ◌↔◌, Bool, Decides, bit_or, length, IfOk, IsErr, IsOk, MatchOption};
+ghost use Rattle.std.specs.Prelude.{find, position, option_copied, ◌≡◌, ℕ, ◌==◌, ◌↔◌, Bool, Decides, bit_or, length, IfOk, IsErr, IsOk, MatchOption};
 ghost use Rattle.std.specs.List.{All};
+ghost use Rattle.std.specs.Str.{bytes_eq};
 ghost use Rattle.kinds.specs.Composition.{Composition};
+ghost use Rattle.dwellings.specs.Dwellings.{dwellings, dwelling_words};
 ghost use Rattle.tables.specs.Letters.{meant_code};
-ghost use Rattle.tables.specs.Published.{ConverseAgrees, EntriesAgree, IdempotentAgrees, NeutralAgrees, TableAgrees};
+ghost use Rattle.tables.specs.Literature.{LiteratureAgrees, LiteratureComplete};
+ghost use Rattle.tables.specs.Published.{ChartAgrees, Complete, Composes, ComposesByParts, ConverseAgrees, EntriesAgree, IdempotentAgrees, NeutralAgrees, TableAgrees, Uncomposed, UncomposedByParts};
 ghost use Rattle.tables.specs.Relations.{Single, Whole};
 ghost use Rattle.tables.specs.Scores.{score_after};
 
@@ -32,11 +35,27 @@ struct Table<'a> {
     rows: &'a [Entries],
 }
 
-impl Table<'_> {
+impl<'a> Table<'a> {
+    /// The row of a letter, or none.
+    fn row(self, letter: &str) -> Option<&'a Entries>
+        ensures { option_copied result ≡ find (λ row. bytes_eq row.letter.now letter.now) self.entry.rows.now }
+    {
+        self.rows.iter().find(|row| row.letter == letter)
+    }
+
+    /// The place of the column of a letter, or none.
+    fn column(self, letter: &str) -> Option<usize>
+        ensures { result ≡ position (λ row. bytes_eq row.letter.now letter.now) self.entry.rows.now }
+    {
+        self.rows.iter().position(|row| row.letter == letter)
+    }
+
     /// The published composition of two relations, or none where it cannot be read.
-    fn composition<K: Notation>(self, first: &str, second: &str) -> Option<u64> {
-        let row = self.rows.iter().find(|row| row.letter == first)?;
-        let column = self.rows.iter().position(|row| row.letter == second)?;
+    fn composition<K: Notation>(self, first: &str, second: &str) -> Option<u64>
+        ensures { MatchOption result (Uncomposed K.words self.entry first.now second.now) (λ set. Composes K.words self.entry first.now second.now set) }
+    {
+        let row = self.row(first)?;
+        let column = self.column(second)?;
         self.letters.set::<K>(row.entries.get(column)?)
     }
 }
@@ -112,6 +131,7 @@ impl Comparison {
     ) -> anyhow::Result<()>
         ensures full { IsOk result → length entries.now ≡ length table.entry.rows.now }
         ensures counted { IfOk result (λ _. (self.new.score.lacking ≡ 0) ↔ ((self.old.score.lacking ≡ 0) × EntriesAgree K.Kind.meaning K.words table.entry r entries.now)) }
+        ensures kept { IfOk result (λ _. self.new.met ≡ self.old.met) }
     {
         if entries.len() != table.rows.len() {
             return Err(anyhow!("a published row has not one entry for each column"));
@@ -146,7 +166,8 @@ fn hold_converses<K: Kind + Notation>(
     letters: Letters,
     pairs: &[Turned],
 ) -> anyhow::Result<u32>
-    ensures { IfOk result (λ differing. (differing ≡ 0) ↔ All (ConverseAgrees K.Kind.meaning K.words letters.entry.0.now) pairs.now) }
+    ensures agree { IfOk result (λ differing. (differing ≡ 0) ↔ All (ConverseAgrees K.Kind.meaning K.words letters.entry.0.now) pairs.now) }
+    ensures complete { IfOk result (λ _. Complete K.Kind.meaning K.words letters.entry.0.now 0 (λ turned. turned.0.now) pairs.now) }
 {
     let mut comparison = Comparison::default();
     for Turned(relation, converse) in pairs {
@@ -163,7 +184,8 @@ fn hold_compositions<K: Kind + Notation>(
     table: Table,
     left_out: u64,
 ) -> anyhow::Result<u32>
-    ensures { IfOk result (λ differing. (differing ≡ 0) ↔ TableAgrees K.Kind.meaning K.words table.entry) }
+    ensures agree { IfOk result (λ differing. (differing ≡ 0) ↔ TableAgrees K.Kind.meaning K.words table.entry) }
+    ensures complete { IfOk result (λ _. Complete K.Kind.meaning K.words table.entry.letters.0.now left_out (λ row. row.letter.now) table.entry.rows.now) }
 {
     let mut comparison = Comparison {
         met: left_out,
@@ -183,7 +205,8 @@ fn hold_identity<K: Kind + Notation>(
     identity: u8,
     letter: &str,
 ) -> anyhow::Result<u32>
-    ensures { IfOk result (λ differing. (differing ≡ 0) ↔ (IdempotentAgrees K.Kind.meaning K.words table.entry.letters.0.now identity letter.now × All (λ row. NeutralAgrees K.Kind.meaning K.words table.entry.letters.0.now identity row.letter.now) table.entry.rows.now)) }
+    ensures agree { IfOk result (λ differing. (differing ≡ 0) ↔ (IdempotentAgrees K.Kind.meaning K.words table.entry.letters.0.now identity letter.now × All (λ row. NeutralAgrees K.Kind.meaning K.words table.entry.letters.0.now identity row.letter.now) table.entry.rows.now)) }
+    ensures complete { IfOk result (λ _. (one : ℕ) × Single identity one × Complete K.Kind.meaning K.words table.entry.letters.0.now one (λ row. row.letter.now) table.entry.rows.now) }
 {
     let mut comparison = Comparison {
         met: single(identity),
@@ -200,60 +223,109 @@ fn hold_identity<K: Kind + Notation>(
     comparison.close::<K>(rt, "identity")
 }
 
+/// What is published of the cardinal directions: their letters, the directions by their parts, and the table by which parts compose.
+#[derive(Clone, Copy)]
+struct Chart<'a> {
+    letters: Letters<'a>,
+    directions: &'a [Direction],
+    points: Table<'a>,
+}
+
 /// The published composition of two directions: those whose two parts are each in the composition of the parts.
-fn composed_directions(
-    letters: Letters,
-    points: Table,
-    first: &Direction,
-    second: &Direction,
-) -> Option<u64> {
+fn composed_directions(chart: Chart, first: &Direction, second: &Direction) -> Option<u64>
+    ensures { MatchOption result (UncomposedByParts chart.entry first.now second.now) (λ set. ComposesByParts chart.entry first.now second.now set) }
+{
+    let points = chart.points;
     let east = points.composition::<Moments>(first.eastward, second.eastward)?;
     let north = points.composition::<Moments>(first.northward, second.northward)?;
     let mut found = 0;
-    for direction in &DIRECTIONS {
+    for direction in chart.directions {
         let eastward = points.letters.code::<Moments>(direction.eastward)?;
         let northward = points.letters.code::<Moments>(direction.northward)?;
         if contains(east, eastward) && contains(north, northward) {
-            found |= letters.set::<Dwellings>(direction.letter)?;
+            found |= chart.letters.set::<Dwellings>(direction.letter)?;
         }
     }
     Some(found)
 }
 
 /// Holds the published compositions of the cardinal directions against ours.
-fn hold_directions(rt: HostRuntime, letters: Letters, points: Table) -> anyhow::Result<u32> {
+fn hold_directions(rt: HostRuntime, chart: Chart) -> anyhow::Result<u32>
+    ensures agree { IfOk result (λ differing. (differing ≡ 0) ↔ ChartAgrees chart.entry) }
+    ensures complete { IfOk result (λ _. Complete dwellings dwelling_words chart.entry.letters.0.now 0 (λ direction. direction.letter.now) chart.entry.directions.now) }
+{
     let mut comparison = Comparison::default();
-    for first in &DIRECTIONS {
-        let r = comparison.meet::<Dwellings>(letters, first.letter)?;
-        for second in &DIRECTIONS {
-            let s = letters.read::<Dwellings>(second.letter)?;
-            let published = composed_directions(letters, points, first, second);
+    for first in chart.directions {
+        let r = comparison.meet::<Dwellings>(chart.letters, first.letter)?;
+        for second in chart.directions {
+            let s = chart.letters.read::<Dwellings>(second.letter)?;
+            let published = composed_directions(chart, first, second);
             comparison.hold_composition::<Dwellings>(rt, (r, s), published)?;
         }
     }
     comparison.close::<Dwellings>(rt, "composition")
 }
 
-/// Holds our tables against all published ones; how many entries differ.
-pub(crate) fn hold_all(rt: HostRuntime) -> anyhow::Result<u32> {
+/// What is published of the three kinds.
+#[derive(Clone, Copy)]
+pub(crate) struct Literature<'a> {
+    points: Table<'a>,
+    point_converses: &'a [Turned],
+    intervals: Table<'a>,
+    /// The letter of the identity of intervals, which their table leaves out.
+    identity: &'a str,
+    interval_letters: Letters<'a>,
+    interval_converses: &'a [Turned],
+    chart: Chart<'a>,
+    direction_converses: &'a [Turned],
+}
+
+/// The published tables that this program has. They are statics with references in them, which no clause can name.
+pub(crate) fn published_tables() -> Literature<'static> {
     let points = Table {
         letters: Letters(&POINT_LETTERS),
         rows: &POINT_COMPOSITIONS,
     };
-    let intervals = Table {
-        letters: Letters(&ALLEN_LETTERS),
-        rows: &ALLEN_COMPOSITIONS,
-    };
-    let directions = Letters(&DIRECTION_LETTERS);
-    let identity = intervals.letters.read::<Spells>(ALLEN_IDENTITY)?;
+    Literature {
+        points,
+        point_converses: &POINT_CONVERSES,
+        intervals: Table {
+            letters: Letters(&ALLEN_LETTERS),
+            rows: &ALLEN_COMPOSITIONS,
+        },
+        identity: ALLEN_IDENTITY,
+        interval_letters: Letters(&INTERVAL_LETTERS),
+        interval_converses: &INTERVAL_CONVERSES,
+        chart: Chart {
+            letters: Letters(&DIRECTION_LETTERS),
+            directions: &DIRECTIONS,
+            points,
+        },
+        direction_converses: &DIRECTION_CONVERSES,
+    }
+}
+
+/// Holds our tables against all published ones; how many entries differ.
+pub(crate) fn hold_all(rt: HostRuntime, literature: Literature) -> anyhow::Result<u32>
+    ensures agree { IfOk result (λ differing. (differing ≡ 0) ↔ LiteratureAgrees literature.entry) }
+    ensures complete { IfOk result (λ _. LiteratureComplete literature.entry) }
+{
+    let points = literature.points;
+    let intervals = literature.intervals;
+    let chart = literature.chart;
+    let identity = intervals.letters.read::<Spells>(literature.identity)?;
     Ok(total(&[
-        hold_converses::<Moments>(rt, points.letters, &POINT_CONVERSES)?,
+        hold_converses::<Moments>(rt, points.letters, literature.point_converses)?,
         hold_compositions::<Moments>(rt, points, 0)?,
-        hold_converses::<Spells>(rt, Letters(&INTERVAL_LETTERS), &INTERVAL_CONVERSES)?,
+        hold_converses::<Spells>(
+            rt,
+            literature.interval_letters,
+            literature.interval_converses,
+        )?,
         hold_compositions::<Spells>(rt, intervals, single(identity))?,
-        hold_identity::<Spells>(rt, intervals, identity, ALLEN_IDENTITY)?,
-        hold_converses::<Dwellings>(rt, directions, &DIRECTION_CONVERSES)?,
-        hold_directions(rt, directions, points)?,
+        hold_identity::<Spells>(rt, intervals, identity, literature.identity)?,
+        hold_converses::<Dwellings>(rt, chart.letters, literature.direction_converses)?,
+        hold_directions(rt, chart)?,
     ]))
 }
 

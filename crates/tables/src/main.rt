@@ -10,7 +10,7 @@ mod relations;
 mod score;
 mod transitivity;
 
-use comparison::hold_all;
+use comparison::{hold_all, published_tables};
 use dwellings::Dwellings;
 use laws::try_laws;
 use moments::Moments;
@@ -34,7 +34,7 @@ fn main(rt: HostRuntime) -> anyhow::Result<()> {
     print_kind::<Spells>(rt, "spells")?;
     print_kind::<Dwellings>(rt, "dwellings")?;
     let differ = total(&[
-        hold_all(rt)?,
+        hold_all(rt, published_tables())?,
         try_laws::<Moments>(rt)?,
         try_laws::<Spells>(rt)?,
         try_laws::<Dwellings>(rt)?,

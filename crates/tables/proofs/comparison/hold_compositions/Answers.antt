@@ -1,13 +1,13 @@
 -- Each row counts in its entries.
-use Rattle.std.proofs.Common.{◌≡◌, ◌<◌, [], Ok, get_or, length, ap, subst, refl, arith}
-use Rattle.std.proofs.lemmas.List.{get_or_default}
+use Rattle.std.proofs.Common.{◌≡◌, ◌<◌, Ok, get_or, length, ap, sym, ◌+◌, ◌∙◌, subst, refl, arith}
 use Rattle.std.proofs.lemmas.Result.{IfOk-weaker}
 use Rattle.tables.specs.Published.{EntriesAgree, RowAgrees}
 use Rattle.tables.specs.declared.published.Entries.{Entries}
 use Rattle.tables.specs.declared.score.Score.{Score}
 use Rattle.tables.specs.declared.comparison.Comparison.{Comparison}
-use Rattle.tables.proofs.Lacking.{Counts, counts_as, counts_more}
-use Rattle.tables.proofs.Rowed.{code_read, row_counted}
+use Rattle.tables.proofs.Lacking.{Counts, counts_all, counts_item}
+use Rattle.tables.proofs.Completed.{MetBelow, met_all, met_more}
+use Rattle.tables.proofs.Rowed.{code_read, no_row, row_counted}
 use Rattle.tables.proofs.comparison.hold_compositions.Goals as goal
 
 pub loop-row-preserved : goal.loop-row-preserved
@@ -16,27 +16,30 @@ loop-row-preserved g c =
     let words = g.K.Notation.words in
     let table = c.args.table in
     let rows = table.rows.now in
-    let none : Entries = record { letter = record { ref_ptr = (0, 0); now = [] }; entries = record { ref_ptr = (0, 0); now = [] } } in
     let k = c.loop-row.row-index in
     let within : k < length rows = omega arith in
-    let row = get_or rows k none in
+    let row = get_or rows k no_row in
     let r = c.in_ok-r.r in
     let old = c.loop-row.comparison.score.lacking in
     let new = c.hold_row.new.self.score.lacking in
-    let (one, _, met) = c.in_ok-r.ensures.met in
+    let (one, single, met) = c.in_ok-r.ensures.met in
     let same : c.meet.new.self.score ≡ c.loop-row.comparison.score = ap (λ (x : Comparison). x.score) met in
     let counted : Counts old new (EntriesAgree m words table r row.entries.now) =
     subst (λ (s : Score). Counts s.lacking new (EntriesAgree m words table r row.entries.now)) same c.in_ok-hold_row.ensures.counted in
     let here = row_counted m words table row r (code_read _ r (Ok r) c.in_ok-r.ensures.read refl) old new counted in
-    counts_more 0 old new (λ k. (d : Entries) → RowAgrees m words table (get_or rows k d)) k c.loop-row.invariant
-    (counts_as old new (λ agrees d. subst (λ (x : Entries). RowAgrees m words table x) (get_or_default rows k none d within) agrees) (λ all. all none) here)
+    let counts = counts_item (RowAgrees m words table) rows k no_row 0 old new within c.loop-row.invariant.0 here in
+    let more = met_more m words table.letters.0.now c.args.left_out (λ (x : Entries). x.letter.now) rows g.met.K.Notation.named g.met.K.Notation.worded g.met.K.Kind.lawful.few_codes
+    k r one c.loop-row.comparison.met no_row within (code_read _ r (Ok r) c.in_ok-r.ensures.read refl) single c.loop-row.invariant.1 in
+    (counts, subst (MetBelow m words table.letters.0.now c.args.left_out (λ (x : Entries). x.letter.now) rows (k + 1)) (sym (c.in_ok-hold_row.ensures.kept ∙ ap (λ (x : Comparison). x.met) met)) more)
 
-pub returns : goal.returns
-returns g c =
-    let (forth, back) = c.loop-row.invariant in
+pub returns-clause-agree : goal.returns-clause-agree
+returns-clause-agree g c =
     IfOk-weaker c.close.result _ _
-    (λ differing closed. (
-      λ zero k d l. (forth (omega (arith, closed.0))).1 k (omega arith) d,
-      λ agrees. omega (arith, closed.0, back (refl, λ k l d. agrees k d (omega arith))),
-    ))
+    (λ differing closed. counts_all (RowAgrees g.K.Kind.meaning g.K.Notation.words c.args.table) c.args.table.rows.now c.loop-row.row-index c.loop-row.comparison.score.lacking differing (omega arith) closed.0 c.loop-row.invariant.0)
+    c.close.ensures
+
+pub returns-clause-complete : goal.returns-clause-complete
+returns-clause-complete g c =
+    IfOk-weaker c.close.result _ _
+    (λ differing closed. met_all g.K.Kind.meaning g.K.Notation.words c.args.table.letters.0.now c.args.left_out (λ (x : Entries). x.letter.now) c.args.table.rows.now c.loop-row.row-index c.loop-row.comparison.met (omega arith) c.loop-row.invariant.1 closed.1)
     c.close.ensures

@@ -18,13 +18,6 @@ loop-s-preserved g c =
     counts_more _ _ _ (λ s. (t : ℕ) → t < third → holds s t) c.loop-s.s c.loop-s.invariant
     (counts_as c.loop-s.score.lacking c.loop-t.score.lacking (λ all t l. all t (omega arith)) (λ all t l. all t (omega arith)) c.loop-t.invariant)
 
-pub loop-r-preserved : goal.loop-r-preserved
-loop-r-preserved g c =
-    let (second, third) = c.extent-second.result in
-    let holds = LawHolds g.K.Kind.meaning c.args.law in
-    counts_more _ _ _ (λ r. (s : ℕ) → s < second → (t : ℕ) → t < third → holds r s t) c.loop-r.r c.loop-r.invariant
-    (counts_as c.loop-r.score.lacking c.loop-s.score.lacking (λ all s l. all s (omega arith)) (λ all s l. all s (omega arith)) c.loop-s.invariant)
-
 pub returns : goal.returns
 returns g c =
     let m = g.K.Kind.meaning in

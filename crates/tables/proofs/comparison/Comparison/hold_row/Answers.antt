@@ -1,5 +1,5 @@
 -- Each column counts in its entry.
-use Rattle.std.proofs.Common.{◌≡◌, ℕ, ◌<◌, Bor, List, Ok, get_or, length, sym, ap, subst, refl, rules}
+use Rattle.std.proofs.Common.{◌≡◌, ℕ, ◌<◌, Bor, List, Ok, get_or, length, sym, ◌∙◌, subst, refl, rules}
 use Rattle.std.proofs.lemmas.Bool.{false≢true}
 use Rattle.std.proofs.lemmas.List.{length_push}
 use Rattle.std.proofs.lemmas.Slice.Zip.{zip_turn}
@@ -7,9 +7,8 @@ use Rattle.std.specs.Iterator.Adapters.{zip_first, zip_second}
 use Rattle.std.specs.Slice.Iter.{iter_rest}
 use Rattle.tables.specs.Published.{EntryAgrees}
 use Rattle.tables.specs.declared.published.Entries.{Entries}
-use Rattle.tables.specs.declared.comparison.Comparison.{Comparison}
 use Rattle.tables.proofs.Lacking.{Counts, counts_more}
-use Rattle.tables.proofs.Rowed.{at_place, code_read, entry_counted}
+use Rattle.tables.proofs.Rowed.{at_place, code_read, entry_counted, held_met, held_score}
 use Rattle.tables.proofs.comparison.Comparison.hold_row.Goals as goal
 
 pub loop-column-preserved : goal.loop-column-preserved
@@ -33,7 +32,8 @@ loop-column-preserved g c =
     let code = code_read _ c.in_ok-s.s (Ok c.in_ok-s.s) c.in_ok-s.ensures refl in
     let held = c.in_ok-hold_composition.ensures in
     let here = entry_counted m words letters r column.now.letter.now entry.now.now c.in_ok-s.s code old new c.set.result c.set.ensures (λ none. false≢true (held.unread none))
-    (λ set is. let (agrees, decides, after) = held.counted set is in (agrees, decides, ap (λ (x : Comparison). x.score) after)) in
-    subst (λ (n : ℕ). Counts before.lacking new.lacking ((k : ℕ) → k < n → P k)) (sym (length_push c.loop-column.yielded (column, entry)))
-    (counts_more before.lacking old.lacking new.lacking P k c.loop-column.invariant
-    (at_place m words letters r rows entries k column.now entry.now of_rows of_entries old.lacking new.lacking here))
+    (held_score _ _ c.set.result held.counted) in
+    let counted = subst (λ (n : ℕ). Counts before.lacking new.lacking ((k : ℕ) → k < n → P k)) (sym (length_push c.loop-column.yielded (column, entry)))
+    (counts_more before.lacking old.lacking new.lacking P k c.loop-column.invariant.0
+    (at_place m words letters r rows entries k column.now entry.now of_rows of_entries old.lacking new.lacking here)) in
+    (counted, held_met _ _ c.set.result held.counted (λ none. false≢true (held.unread none)) ∙ c.loop-column.invariant.1)
