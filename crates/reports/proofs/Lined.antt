@@ -30,7 +30,3 @@ text_more line xs i d start text text' more l h m e =
     ∙ ap (λ (t : List ℕ). start ++ lines_from line 1 (take i xs) ++ t) (m ∙ ap (λ (n : ℕ). line n (get_or xs i d)) count)
     ∙ append_assoc start (lines_from line 1 (take i xs)) (line (1 + i) (get_or xs i d))
     ∙ ap (λ (t : List ℕ). start ++ t) (sym (lines_more line 1 xs i d l))
-
--- Five texts, one after another.
-pub five_texts : (a b c d e : List ℕ) → a ++ (b ++ (c ++ (d ++ e))) ≡ a ++ b ++ c ++ d ++ e
-five_texts a b c d e = simp append_assoc refl

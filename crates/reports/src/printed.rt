@@ -1,5 +1,5 @@
 // How values and costs are printed, and what is read of them.
-ghost use Rattle.std.specs.Prelude.{◌≡◌, ℕ, ◌<◌, List, ◌∷◌, ◌++◌, length, Some, refl};
+ghost use Rattle.std.specs.Prelude.{◌≡◌, ℕ, ◌<◌, List, ◌∷◌, ◌++◌, length, Some, OnOk, refl};
 ghost use Rattle.std.specs.Fmt.{decimal};
 ghost use Rattle.files.specs.declared.head.HeadKind.{HeadKind};
 ghost use Rattle.files.specs.declared.head.HeadKind.TheVariants.{Moments as OfMoments, Spells as OfSpells, Dwellings as OfDwellings};
@@ -11,63 +11,88 @@ ghost use Rattle.files.specs.Words.{spelled};
 ghost use Rattle.reports.specs.Spellings.{spelled_as};
 ghost use Rattle.reports.specs.Apart.{decimals_apart, pairs_apart, decimal_lacks, pair_lacks};
 
-use dwellings::Dwellings;
+use dwellings::{Dwelling, Dwellings};
 use files::letter::TallyLetter;
 use kinds::kind::Kind;
 use kinds::notation::Notation;
-use moments::Moments;
+use moments::{Moment, Moments};
 use spells::Spells;
+use spells::spell::Spell;
+use std::alloc::{AllocError, Global};
 use std::fmt::Display;
 use tallies::by_weight::ByWeight;
-use tallies::sworn_first::SwornFirst;
+use tallies::sworn_first::{SwornCost, SwornFirst};
 use tallies::tally::Tally;
 
 /// A kind whose values can be printed: the numbers of a value, with a space between.
-pub trait PrintedKind: Kind<Value: Display> + Notation {
+pub trait PrintedKind: Kind + Notation {
     /// The bytes of a value.
     ghost value_text: { Self.Value → List ℕ };
 
-    /// They are what is printed of it.
-    ghost value_printed: { (v : Self.Value) → Self.Value.output v ≡ Some (value_text v) };
+    /// Appends a value to a text.
+    fn write_value(heap: Global, value: Self::Value, text: &mut Vec<u8>) -> Result<(), AllocError>
+        ensures { OnOk result (text.new.items ≡ text.old.items ++ value_text value) };
 }
 
 /// A tally whose costs can be printed.
-pub trait PrintedTally: Tally<Cost: Display> + TallyLetter {
+pub trait PrintedTally: Tally + TallyLetter {
     /// The bytes of a cost.
     ghost cost_text: { Self.Cost → List ℕ };
 
-    /// They are what is printed of it.
-    ghost cost_printed: { (c : Self.Cost) → Self.Cost.output c ≡ Some (cost_text c) };
+    /// Appends a cost to a text.
+    fn write_cost(heap: Global, cost: Self::Cost, text: &mut Vec<u8>) -> Result<(), AllocError>
+        ensures { OnOk result (text.new.items ≡ text.old.items ++ cost_text cost) };
+}
+
+// Appends what `Display` writes of a value.
+fn push_shown<V: Copy + Display>(
+    heap: Global,
+    value: V,
+    text: &mut Vec<u8>,
+) -> Result<(), AllocError>
+    ensures { (bytes : List ℕ) → V.output value ≡ Some bytes → OnOk result (text.new.items ≡ text.old.items ++ bytes) }
+{
+    text.extend_from_slice(format!(in heap; "{value}")?.as_bytes())
 }
 
 impl PrintedKind for Moments {
     ghost value_text = { λ v. decimal v.at };
 
-    ghost value_printed = { λ v. refl };
+    fn write_value(heap: Global, value: Moment, text: &mut Vec<u8>) -> Result<(), AllocError> {
+        push_shown(heap, value, text)
+    }
 }
 
 impl PrintedKind for Spells {
     ghost value_text = { λ v. decimal v.start ++ 32 ∷ decimal v.end };
 
-    ghost value_printed = { λ v. refl };
+    fn write_value(heap: Global, value: Spell, text: &mut Vec<u8>) -> Result<(), AllocError> {
+        push_shown(heap, value, text)
+    }
 }
 
 impl PrintedKind for Dwellings {
     ghost value_text = { λ v. decimal v.east ++ 32 ∷ decimal v.north };
 
-    ghost value_printed = { λ v. refl };
+    fn write_value(heap: Global, value: Dwelling, text: &mut Vec<u8>) -> Result<(), AllocError> {
+        push_shown(heap, value, text)
+    }
 }
 
 impl PrintedTally for ByWeight {
     ghost cost_text = { decimal };
 
-    ghost cost_printed = { λ c. refl };
+    fn write_cost(heap: Global, cost: u32, text: &mut Vec<u8>) -> Result<(), AllocError> {
+        push_shown(heap, cost, text)
+    }
 }
 
 impl PrintedTally for SwornFirst {
     ghost cost_text = { λ c. decimal c.sworn ++ 47 ∷ decimal c.weight };
 
-    ghost cost_printed = { λ c. refl };
+    fn write_cost(heap: Global, cost: SwornCost, text: &mut Vec<u8>) -> Result<(), AllocError> {
+        push_shown(heap, cost, text)
+    }
 }
 
 /// A kind whose sheets heads name, and whose values can be read back from a report.

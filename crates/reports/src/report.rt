@@ -1,5 +1,5 @@
 // The report of a settled sheet, line by line.
-ghost use Rattle.std.specs.Prelude.{◌≡◌, ℕ, List, ◌++◌, length, IfOk, OnOk, string_bytes};
+ghost use Rattle.std.specs.Prelude.{◌≡◌, ℕ, List, ◌++◌, length, IfOk, OnOk};
 ghost use Rattle.reports.specs.Lines.{print, costs_part, sheet_line, item_line, person_line, lines_from, report_of, PutsOrWants};
 
 use crate::printed::{PrintedKind, PrintedTally};
@@ -22,16 +22,18 @@ pub struct Report<'a, V, C> {
 
 // The costs of the first line, and whether the search has finished. Clauses name how a sheet is printed by `print ..` each time, since no
 // trait has both the kind and the tally.
-fn costs_text<T: PrintedTally>(heap: Global, shown: Shown<T::Cost>) -> Result<String, AllocError>
-    ensures { IfOk result (λ s. string_bytes s ≡ costs_part T.PrintedTally.cost_text shown.cost shown.floor shown.finished) }
+fn costs_text<T: PrintedTally>(heap: Global, shown: Shown<T::Cost>) -> Result<Vec<u8>, AllocError>
+    ensures { IfOk result (λ v. v.items ≡ costs_part T.PrintedTally.cost_text shown.cost shown.floor shown.finished) }
 {
-    let Shown {
-        cost,
-        floor,
-        finished,
-    } = shown;
-    let state = if finished { "final" } else { "open" };
-    format!(in heap; " cost {cost} floor {floor} {state}\n")
+    // In pieces, here and below: a tally's own call writes a cost, and a kind's a value, so that these need no `Display` of their own.
+    let state = if shown.finished { "final" } else { "open" };
+    let mut text = Vec::new(heap);
+    text.extend_from_slice(b" cost ")?;
+    T::write_cost(heap, shown.cost, &mut text)?;
+    text.extend_from_slice(b" floor ")?;
+    T::write_cost(heap, shown.floor, &mut text)?;
+    text.extend_from_slice(format!(in heap; " {state}\n")?.as_bytes())?;
+    Ok(text)
 }
 
 // The first line.
@@ -48,7 +50,7 @@ fn sheet_text<K: PrintedKind, T: PrintedTally>(
     text.push(K::letter())?;
     text.extend_from_slice(format!(in heap; " {items} ")?.as_bytes())?;
     text.push(T::letter())?;
-    text.extend_from_slice(costs_text::<T>(heap, sight.shown)?.as_bytes())?;
+    text.extend_from_slice(costs_text::<T>(heap, sight.shown)?.as_slice())?;
     Ok(text)
 }
 
@@ -57,10 +59,13 @@ fn item_text<K: PrintedKind, T: PrintedTally>(
     heap: Global,
     item: u64,
     value: K::Value,
-) -> Result<String, AllocError>
-    ensures { IfOk result (λ s. string_bytes s ≡ item_line (print K.Notation.initial T.TallyLetter.initial K.PrintedKind.value_text T.PrintedTally.cost_text) item value) }
+) -> Result<Vec<u8>, AllocError>
+    ensures { IfOk result (λ v. v.items ≡ item_line (print K.Notation.initial T.TallyLetter.initial K.PrintedKind.value_text T.PrintedTally.cost_text) item value) }
 {
-    format!(in heap; "item {item} {value}\n")
+    let mut text = format!(in heap; "item {item} ")?.into_bytes();
+    K::write_value(heap, value, &mut text)?;
+    text.push(b'\n')?;
+    Ok(text)
 }
 
 // The line of a person, or nothing if the person is charged nothing.
@@ -68,27 +73,30 @@ fn person_text<K: PrintedKind, T: PrintedTally>(
     heap: Global,
     person: u64,
     charge: T::Cost,
-) -> Result<String, AllocError>
-    ensures { IfOk result (λ s. string_bytes s ≡ person_line (print K.Notation.initial T.TallyLetter.initial K.PrintedKind.value_text T.PrintedTally.cost_text) (λ c. T.Tally.order c T.Joins.joining.empty) person charge) }
+) -> Result<Vec<u8>, AllocError>
+    ensures { IfOk result (λ v. v.items ≡ person_line (print K.Notation.initial T.TallyLetter.initial K.PrintedKind.value_text T.PrintedTally.cost_text) (λ c. T.Tally.order c T.Joins.joining.empty) person charge) }
 {
     if T::at_most(charge, T::empty()) {
-        return Ok(String::new(heap));
+        return Ok(Vec::new(heap));
     }
-    format!(in heap; "person {person} charge {charge}\n")
+    let mut text = format!(in heap; "person {person} charge ")?.into_bytes();
+    T::write_cost(heap, charge, &mut text)?;
+    text.push(b'\n')?;
+    Ok(text)
 }
 
 // The lines of the members of a list, of which the first is counted as 1.
-fn push_lines<X: Copy, F: Fn(u64, X) -> Result<String, AllocError>>(
+fn push_lines<X: Copy, F: Fn(u64, X) -> Result<Vec<u8>, AllocError>>(
     text: &mut Vec<u8>,
     members: &[X],
     line: F,
 ) -> Result<(), AllocError>
     requires { F.IsAlwaysCallable line }
-    ensures { (of : ℕ → X → List ℕ) → ((i : ℕ) (x : X) (r : _) → F.post line i x r → IfOk r (λ s. string_bytes s ≡ of i x)) → OnOk result (text.new.items ≡ text.old.items ++ lines_from of 1 members.now) }
+    ensures { (of : ℕ → X → List ℕ) → ((i : ℕ) (x : X) (r : _) → F.post line i x r → IfOk r (λ v. v.items ≡ of i x)) → OnOk result (text.new.items ≡ text.old.items ++ lines_from of 1 members.now) }
 {
     for (i, member) in members.iter().enumerate() {
         // A cast, as there is no `From` from a `usize` to a `u64`.
-        text.extend_from_slice(line(i as u64 + 1, *member)?.as_bytes())?;
+        text.extend_from_slice(line(i as u64 + 1, *member)?.as_slice())?;
     }
     Ok(())
 }
