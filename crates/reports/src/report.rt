@@ -94,9 +94,9 @@ fn push_lines<X: Copy, F: Fn(u64, X) -> Result<Vec<u8>, AllocError>>(
     requires { F.IsAlwaysCallable line }
     ensures { (of : ℕ → X → List ℕ) → ((i : ℕ) (x : X) (r : _) → F.post line i x r → IfOk r (λ v. v.items ≡ of i x)) → OnOk result (text.new.items ≡ text.old.items ++ lines_from of 1 members.now) }
 {
-    for (i, member) in members.iter().enumerate() {
-        // A cast, as there is no `From` from a `usize` to a `u64`.
-        text.extend_from_slice(line(i as u64 + 1, *member)?.as_slice())?;
+    // Counted by `u64`s, as there is no `From` from the `usize` of an `enumerate` to a `u64`.
+    for (i, member) in (0u64..).zip(members) {
+        text.extend_from_slice(line(i + 1, *member)?.as_slice())?;
     }
     Ok(())
 }
