@@ -23,7 +23,7 @@ use anyhow::{Context, anyhow};
 use dwellings::Dwellings;
 use kinds::composition::compose;
 use kinds::kind::Kind;
-use kinds::notation::Notation;
+use kinds::notation::{Notation, WholeNotation};
 use moments::Moments;
 use points::set::contains;
 use spells::Spells;
@@ -161,7 +161,7 @@ impl Comparison {
 }
 
 /// Holds published converses against ours.
-fn hold_converses<K: Kind + Notation>(
+fn hold_converses<K: WholeNotation>(
     rt: HostRuntime,
     letters: Letters,
     pairs: &[Turned],
@@ -179,7 +179,7 @@ fn hold_converses<K: Kind + Notation>(
 }
 
 /// Holds a published table of compositions against ours. It has a row for each relation but those of a given set.
-fn hold_compositions<K: Kind + Notation>(
+fn hold_compositions<K: WholeNotation>(
     rt: HostRuntime,
     table: Table,
     left_out: u64,
@@ -199,7 +199,7 @@ fn hold_compositions<K: Kind + Notation>(
 }
 
 /// Holds the row and the column of the identity, which Allen's table leaves out, against ours: composed with it, a relation is itself.
-fn hold_identity<K: Kind + Notation>(
+fn hold_identity<K: WholeNotation>(
     rt: HostRuntime,
     table: Table,
     identity: u8,

@@ -28,7 +28,7 @@ loop-row-preserved g c =
     subst (λ (s : Score). Counts s.lacking new (EntriesAgree m words table r row.entries.now)) same c.in_ok-hold_row.ensures.counted in
     let here = row_counted m words table row r (code_read _ r (Ok r) c.in_ok-r.ensures.read refl) old new counted in
     let counts = counts_item (RowAgrees m words table) rows k no_row 0 old new within c.loop-row.invariant.0 here in
-    let more = met_more m words table.letters.0.now c.args.left_out (λ (x : Entries). x.letter.now) rows g.met.K.Notation.named g.met.K.Notation.worded g.met.K.Kind.lawful.few_codes
+    let more = met_more m words table.letters.0.now c.args.left_out (λ (x : Entries). x.letter.now) rows g.met.K.WholeNotation.named g.met.K.WholeNotation.worded g.met.K.Kind.lawful.few_codes
     k r one c.loop-row.comparison.met no_row within (code_read _ r (Ok r) c.in_ok-r.ensures.read refl) single c.loop-row.invariant.1 in
     (counts, subst (MetBelow m words table.letters.0.now c.args.left_out (λ (x : Entries). x.letter.now) rows (k + 1)) (sym (c.in_ok-hold_row.ensures.kept ∙ ap (λ (x : Comparison). x.met) met)) more)
 

@@ -32,7 +32,7 @@ loop-relation-preserved g c =
     c.converse.ensures c.single-ours.ensures old new c.set.result c.set.ensures (λ none. false≢true (held.unread none))
     (λ set is. subst (λ (s : Score). new ≡ score_after s (c.single-ours.result == set)) same (ap (λ (x : Comparison). x.score) (held.counted set is))) in
     let counts = counts_item (ConverseAgrees m words letters) pairs k none 0 old.lacking new.lacking within c.loop-relation.invariant.0 here in
-    let more = met_more m words letters 0 (λ (x : Turned). x.0.now) pairs g.met.K.Notation.named g.met.K.Notation.worded g.met.K.Kind.lawful.few_codes
+    let more = met_more m words letters 0 (λ (x : Turned). x.0.now) pairs g.met.K.WholeNotation.named g.met.K.WholeNotation.worded g.met.K.Kind.lawful.few_codes
     k r one c.loop-relation.comparison.met none within (code_read _ r (Ok r) c.in_ok-r.ensures.read refl) single c.loop-relation.invariant.1 in
     let kept : c.hold.new.self.met ≡ c.meet.new.self.met = read_then c.set.result (λ none. false≢true (held.unread none)) (λ set is. ap (λ (x : Comparison). x.met) (held.counted set is)) in
     (counts, subst (MetBelow m words letters 0 (λ (x : Turned). x.0.now) pairs (k + 1)) (sym (kept ∙ ap (λ (x : Comparison). x.met) met)) more)

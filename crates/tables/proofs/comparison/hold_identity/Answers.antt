@@ -40,7 +40,7 @@ loop-row-preserved g c =
     (held_score _ _ c.set-itself-in-loop-row.result after.counted) in
     let here = neutral_counted m words letters i r row.letter.now (code_read _ r (Ok r) c.in_ok-r.ensures.read refl) old.lacking mid.lacking new.lacking left right in
     let counts = counts_item (λ (x : Entries). NeutralAgrees m words letters i x.letter.now) rows k no_row start.lacking old.lacking new.lacking within c.loop-row.invariant.0 here in
-    let more = met_more m words letters c.hold_composition.new.self.met (λ (x : Entries). x.letter.now) rows g.met.K.Notation.named g.met.K.Notation.worded g.met.K.Kind.lawful.few_codes
+    let more = met_more m words letters c.hold_composition.new.self.met (λ (x : Entries). x.letter.now) rows g.met.K.WholeNotation.named g.met.K.WholeNotation.worded g.met.K.Kind.lawful.few_codes
     k r one c.loop-row.comparison.met no_row within (code_read _ r (Ok r) c.in_ok-r.ensures.read refl) single c.loop-row.invariant.1 in
     let first : c.hold_composition-in-loop-row.new.self.met ≡ c.meet.new.self.met =
     held_met _ _ c.set-itself-in-loop-row.result before.counted (λ none. false≢true (before.unread none)) in
