@@ -19,7 +19,8 @@ pub struct Lines<'a> {
     rest: &'a [u8],
 }
 
-/// Where the byte first stands in the text, or the text's length.
+/// Where the byte first stands in the text, or the text's length: a number and no `Option`, since it is as it was promised when
+/// `split_once` called it, which asks `position` itself now.
 pub fn first_place(text: &[u8], b: u8) -> usize
     ensures within { result ≤ length text.now }
     ensures before { (k : ℕ) → k < result → slice_index text.now k ≢ b }

@@ -44,7 +44,8 @@ pub trait PrintedTally: Tally + TallyLetter {
         ensures { OnOk result (text.new.items ≡ text.old.items ++ cost_text cost) };
 }
 
-// Appends what `Display` writes of a value.
+// Appends what `Display` writes of a value. Each kind and tally below calls it in one line: a body in the trait would ask of every value
+// and cost that it have a `Display`.
 fn push_shown<V: Copy + Display>(
     heap: Global,
     value: V,

@@ -25,7 +25,8 @@ pub fn head_read_as<K: ReadKind, T: ReadTally>()
     ensures { (h : Said) → fits_draft (spelled K.Kind.meaning K.Notation.words K.Notation.initial T.TallyLetter.initial) h ≡ true → spelling_of h ≡ spelled K.Kind.meaning K.Notation.words K.Notation.initial T.TallyLetter.initial }
 {}
 
-/// Reports of one kind and tally with the same bytes are of the same number, values, cost, lower bound, state and charges.
+/// Reports of one kind and tally with the same bytes are of the same number, values, cost, lower bound, state and charges,
+/// where one of them has numbers and texts as short as a program holds them (`Short`).
 pub fn reports_read_back<K: ReadKind, T: ReadTally>()
     ensures { ReadBack (print K.Notation.initial T.TallyLetter.initial K.PrintedKind.value_text T.PrintedTally.cost_text) (λ c. T.Tally.order c T.Joins.joining.empty) }
 {}
