@@ -16,7 +16,7 @@ use Rattle.tables.specs.declared.published.Letter.{Letter}
 use Rattle.tables.specs.declared.published.Direction.{Direction}
 use Rattle.tables.specs.declared.score.Score.{Score}
 use Rattle.tables.specs.declared.comparison.Table.{Table}
-use Rattle.tables.specs.declared.comparison.Chart.{Chart}
+use Rattle.tables.specs.declared.literature.Chart.{Chart}
 use Rattle.tables.proofs.Completed.{AnyBelow, any_cases, any_earlier, any_here, decided_union}
 use Rattle.tables.proofs.Agreeing.{same_members}
 use Rattle.tables.proofs.Lacking.{Counts, counts_as, counts_one}

@@ -7,7 +7,7 @@ use Rattle.dwellings.specs.Dwellings.{dwellings, dwelling_words}
 use Rattle.tables.specs.Letters.{meant_code}
 use Rattle.tables.specs.Published.{ChartAgrees, Complete, ConverseAgrees, IdempotentAgrees, NeutralAgrees, TableAgrees}
 use Rattle.tables.specs.Relations.{Single}
-use Rattle.tables.specs.declared.comparison.Literature.{Literature}
+use Rattle.tables.specs.declared.literature.Literature.{Literature}
 
 -- The letter of the identity of intervals stands for the base relation i.
 abbrev pub Identity : Literature → ℕ → Type 0

@@ -15,7 +15,7 @@ use Rattle.tables.specs.declared.published.Entries.{Entries}
 use Rattle.tables.specs.declared.published.Turned.{Turned}
 use Rattle.tables.specs.declared.published.Direction.{Direction}
 use Rattle.tables.specs.declared.comparison.Table.{Table}
-use Rattle.tables.specs.declared.comparison.Chart.{Chart}
+use Rattle.tables.specs.declared.literature.Chart.{Chart}
 
 -- A published table is complete: each base relation of the kind is in the set of those left out, or the letter of an item stands for it;
 -- and nothing else is in that set, or is what a letter of an item stands for.

@@ -3,36 +3,26 @@ ghost use Rattle.std.specs.Prelude.{find, position, option_copied, ◌≡◌, �
 ghost use Rattle.std.specs.List.{All};
 ghost use Rattle.std.specs.Str.{bytes_eq};
 ghost use Rattle.kinds.specs.Composition.{Composition};
-ghost use Rattle.dwellings.specs.Dwellings.{dwellings, dwelling_words};
 ghost use Rattle.tables.specs.Letters.{meant_code};
-ghost use Rattle.tables.specs.Literature.{LiteratureAgrees, LiteratureComplete};
-ghost use Rattle.tables.specs.Published.{ChartAgrees, Complete, Composes, ComposesByParts, ConverseAgrees, EntriesAgree, IdempotentAgrees, NeutralAgrees, TableAgrees, Uncomposed, UncomposedByParts};
+ghost use Rattle.tables.specs.Published.{Complete, Composes, ConverseAgrees, EntriesAgree, IdempotentAgrees, NeutralAgrees, TableAgrees, Uncomposed};
 ghost use Rattle.tables.specs.Relations.{Single, Whole};
 ghost use Rattle.tables.specs.Scores.{score_after};
 
 use crate::algebra::{single, whole};
 use crate::letters::Letters;
-use crate::published::{
-    DIRECTION_CONVERSES, DIRECTION_LETTERS, DIRECTIONS, Direction, Entries, INTERVAL_CONVERSES,
-    INTERVAL_LETTERS, POINT_COMPOSITIONS, POINT_CONVERSES, POINT_LETTERS, Turned,
-};
+use crate::published::{Entries, Turned};
 use crate::relations::print_set;
-use crate::score::{Score, total};
-use crate::transitivity::{ALLEN_COMPOSITIONS, ALLEN_IDENTITY, ALLEN_LETTERS};
+use crate::score::Score;
 use anyhow::{Context, anyhow};
-use dwellings::Dwellings;
 use kinds::composition::compose;
 use kinds::kind::Kind;
 use kinds::notation::{Notation, WholeNotation};
-use moments::Moments;
-use points::set::contains;
-use spells::Spells;
 
 /// A published table of compositions. Its columns are in the order of its rows.
 #[derive(Clone, Copy)]
-struct Table<'a> {
-    letters: Letters<'a>,
-    rows: &'a [Entries],
+pub(crate) struct Table<'a> {
+    pub letters: Letters<'a>,
+    pub rows: &'a [Entries],
 }
 
 impl<'a> Table<'a> {
@@ -51,7 +41,7 @@ impl<'a> Table<'a> {
     }
 
     /// The published composition of two relations, or none where it cannot be read.
-    fn composition<K: Notation>(self, first: &str, second: &str) -> Option<u64>
+    pub(crate) fn composition<K: Notation>(self, first: &str, second: &str) -> Option<u64>
         ensures { MatchOption result (Uncomposed K.words self.entry first.now second.now) (λ set. Composes K.words self.entry first.now second.now set) }
     {
         let row = self.row(first)?;
@@ -62,14 +52,14 @@ impl<'a> Table<'a> {
 
 /// A published table as it is held against ours: the base relations that were met in it, and how many of its entries agree.
 #[derive(Clone, Copy, Default)]
-struct Comparison {
+pub(crate) struct Comparison {
     met: u64,
     score: Score,
 }
 
 impl Comparison {
     /// The code of the base relation that a letter stands for, which is met with it. An error where it stands for no single one.
-    fn meet<K: Notation>(&mut self, letters: Letters, letter: &str) -> anyhow::Result<u8>
+    pub(crate) fn meet<K: Notation>(&mut self, letters: Letters, letter: &str) -> anyhow::Result<u8>
         ensures read { MatchOption (meant_code K.words letters.entry.0.now letter.now) (IsErr result) (λ code. result ≡ Ok code) }
         ensures met { IfOk result (λ code. (one : ℕ) × Single code one × (self.new ≡ record self.old { met = bit_or self.old.met one })) }
     {
@@ -108,7 +98,7 @@ impl Comparison {
     }
 
     /// Counts in the published composition of two relations.
-    fn hold_composition<K: Kind + Notation>(
+    pub(crate) fn hold_composition<K: Kind + Notation>(
         &mut self,
         rt: HostRuntime,
         relations: (u8, u8),
@@ -144,7 +134,11 @@ impl Comparison {
     }
 
     /// The line of the table; how many entries differ. An error where a relation was not met.
-    fn close<K: Kind + Notation>(self, rt: HostRuntime, table: &str) -> anyhow::Result<u32>
+    pub(crate) fn close<K: Kind + Notation>(
+        self,
+        rt: HostRuntime,
+        table: &str,
+    ) -> anyhow::Result<u32>
         ensures { IfOk result (λ lacking. (lacking ≡ self.score.lacking) × Whole K.Kind.meaning self.met) }
     {
         if self.met != whole::<K>() {
@@ -161,7 +155,7 @@ impl Comparison {
 }
 
 /// Holds published converses against ours.
-fn hold_converses<K: WholeNotation>(
+pub(crate) fn hold_converses<K: WholeNotation>(
     rt: HostRuntime,
     letters: Letters,
     pairs: &[Turned],
@@ -179,7 +173,7 @@ fn hold_converses<K: WholeNotation>(
 }
 
 /// Holds a published table of compositions against ours. It has a row for each relation but those of a given set.
-fn hold_compositions<K: WholeNotation>(
+pub(crate) fn hold_compositions<K: WholeNotation>(
     rt: HostRuntime,
     table: Table,
     left_out: u64,
@@ -199,7 +193,7 @@ fn hold_compositions<K: WholeNotation>(
 }
 
 /// Holds the row and the column of the identity, which Allen's table leaves out, against ours: composed with it, a relation is itself.
-fn hold_identity<K: WholeNotation>(
+pub(crate) fn hold_identity<K: WholeNotation>(
     rt: HostRuntime,
     table: Table,
     identity: u8,
@@ -223,115 +217,11 @@ fn hold_identity<K: WholeNotation>(
     comparison.close::<K>(rt, "identity")
 }
 
-/// What is published of the cardinal directions: their letters, the directions by their parts, and the table by which parts compose.
-#[derive(Clone, Copy)]
-struct Chart<'a> {
-    letters: Letters<'a>,
-    directions: &'a [Direction],
-    points: Table<'a>,
-}
-
-/// The published composition of two directions: those whose two parts are each in the composition of the parts.
-fn composed_directions(chart: Chart, first: &Direction, second: &Direction) -> Option<u64>
-    ensures { MatchOption result (UncomposedByParts chart.entry first.now second.now) (λ set. ComposesByParts chart.entry first.now second.now set) }
-{
-    let points = chart.points;
-    let east = points.composition::<Moments>(first.eastward, second.eastward)?;
-    let north = points.composition::<Moments>(first.northward, second.northward)?;
-    let mut found = 0;
-    for direction in chart.directions {
-        let eastward = points.letters.code::<Moments>(direction.eastward)?;
-        let northward = points.letters.code::<Moments>(direction.northward)?;
-        if contains(east, eastward) && contains(north, northward) {
-            found |= chart.letters.set::<Dwellings>(direction.letter)?;
-        }
-    }
-    Some(found)
-}
-
-/// Holds the published compositions of the cardinal directions against ours.
-fn hold_directions(rt: HostRuntime, chart: Chart) -> anyhow::Result<u32>
-    ensures agree { IfOk result (λ differing. (differing ≡ 0) ↔ ChartAgrees chart.entry) }
-    ensures complete { IfOk result (λ _. Complete dwellings dwelling_words chart.entry.letters.0.now 0 (λ direction. direction.letter.now) chart.entry.directions.now) }
-{
-    let mut comparison = Comparison::default();
-    for first in chart.directions {
-        let r = comparison.meet::<Dwellings>(chart.letters, first.letter)?;
-        for second in chart.directions {
-            let s = chart.letters.read::<Dwellings>(second.letter)?;
-            let published = composed_directions(chart, first, second);
-            comparison.hold_composition::<Dwellings>(rt, (r, s), published)?;
-        }
-    }
-    comparison.close::<Dwellings>(rt, "composition")
-}
-
-/// What is published of the three kinds.
-#[derive(Clone, Copy)]
-pub(crate) struct Literature<'a> {
-    points: Table<'a>,
-    point_converses: &'a [Turned],
-    intervals: Table<'a>,
-    /// The letter of the identity of intervals, which their table leaves out.
-    identity: &'a str,
-    interval_letters: Letters<'a>,
-    interval_converses: &'a [Turned],
-    chart: Chart<'a>,
-    direction_converses: &'a [Turned],
-}
-
-/// The published tables that this program has. They are statics with references in them, which no clause can name.
-pub(crate) fn published_tables() -> Literature<'static> {
-    let points = Table {
-        letters: Letters(&POINT_LETTERS),
-        rows: &POINT_COMPOSITIONS,
-    };
-    Literature {
-        points,
-        point_converses: &POINT_CONVERSES,
-        intervals: Table {
-            letters: Letters(&ALLEN_LETTERS),
-            rows: &ALLEN_COMPOSITIONS,
-        },
-        identity: ALLEN_IDENTITY,
-        interval_letters: Letters(&INTERVAL_LETTERS),
-        interval_converses: &INTERVAL_CONVERSES,
-        chart: Chart {
-            letters: Letters(&DIRECTION_LETTERS),
-            directions: &DIRECTIONS,
-            points,
-        },
-        direction_converses: &DIRECTION_CONVERSES,
-    }
-}
-
-/// Holds our tables against all published ones; how many entries differ.
-pub(crate) fn hold_all(rt: HostRuntime, literature: Literature) -> anyhow::Result<u32>
-    ensures agree { IfOk result (λ differing. (differing ≡ 0) ↔ LiteratureAgrees literature.entry) }
-    ensures complete { IfOk result (λ _. LiteratureComplete literature.entry) }
-{
-    let points = literature.points;
-    let intervals = literature.intervals;
-    let chart = literature.chart;
-    let identity = intervals.letters.read::<Spells>(literature.identity)?;
-    Ok(total(&[
-        hold_converses::<Moments>(rt, points.letters, literature.point_converses)?,
-        hold_compositions::<Moments>(rt, points, 0)?,
-        hold_converses::<Spells>(
-            rt,
-            literature.interval_letters,
-            literature.interval_converses,
-        )?,
-        hold_compositions::<Spells>(rt, intervals, single(identity))?,
-        hold_identity::<Spells>(rt, intervals, identity, literature.identity)?,
-        hold_converses::<Dwellings>(rt, chart.letters, literature.direction_converses)?,
-        hold_directions(rt, chart)?,
-    ]))
-}
-
 #[cfg(test)]
 mod tests {
     use super::*;
+    use crate::published::{POINT_COMPOSITIONS, POINT_LETTERS};
+    use moments::Moments;
     use std::test::Fail;
 
     // The table of the point algebra with one wrong entry: > for < composed with <.

@@ -5,14 +5,15 @@ mod algebra;
 mod comparison;
 mod laws;
 mod letters;
+mod literature;
 mod published;
 mod relations;
 mod score;
 mod transitivity;
 
-use comparison::{hold_all, published_tables};
 use dwellings::Dwellings;
 use laws::try_laws;
+use literature::{hold_all, published_tables};
 use moments::Moments;
 use relations::print_kind;
 use score::total;

@@ -3,7 +3,7 @@ use Rattle.std.proofs.Common.{ℕ, Decides}
 use Rattle.points.specs.Sets.{has}
 use Rattle.tables.specs.Published.{DirectionIn}
 use Rattle.tables.proofs.Completed.{AnyBelow}
-use Rattle.tables.proofs.comparison.composed_directions.Given as goal
+use Rattle.tables.proofs.literature.composed_directions.Given as goal
 
 abbrev pub invariant-loop-direction : goal.invariant-loop-direction
 invariant-loop-direction l =

@@ -6,7 +6,7 @@ use Rattle.spells.specs.Spells.{spells, spell_words}
 use Rattle.tables.specs.Literature.{Identity}
 use Rattle.tables.specs.Published.{IdempotentAgrees, NeutralAgrees}
 use Rattle.tables.proofs.Rowed.{code_read}
-use Rattle.tables.proofs.comparison.hold_all.Goals as goal
+use Rattle.tables.proofs.literature.hold_all.Goals as goal
 
 pub returns-clause-agree : goal.returns-clause-agree
 returns-clause-agree c =

@@ -5,8 +5,8 @@ use Rattle.std.proofs.lemmas.List.{get_or_default}
 use Rattle.tables.specs.Published.{ComposesByParts, DirectionIn, UncomposedByParts}
 use Rattle.tables.proofs.Charted.{no_direction, ChartBelow, chart_more, chart_same, part_out}
 use Rattle.tables.proofs.Completed.{AnyBelow}
-use Rattle.tables.proofs.comparison.composed_directions.Goals as goal
-use Rattle.tables.proofs.comparison.composed_directions.Goals.{then-contains+then-contains-2+in_ok-found, else-contains, else-contains-via-then-contains+else-contains-2, else-contains-via-else-contains}
+use Rattle.tables.proofs.literature.composed_directions.Goals as goal
+use Rattle.tables.proofs.literature.composed_directions.Goals.{then-contains+then-contains-2+in_ok-found, else-contains, else-contains-via-then-contains+else-contains-2, else-contains-via-else-contains}
 
 pub loop-direction-preserved : goal.loop-direction-preserved
 loop-direction-preserved c =

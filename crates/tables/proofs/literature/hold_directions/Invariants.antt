@@ -7,7 +7,7 @@ use Rattle.tables.specs.declared.published.Direction.{Direction}
 use Rattle.tables.proofs.Charted.{no_direction}
 use Rattle.tables.proofs.Lacking.{Counts}
 use Rattle.tables.proofs.Completed.{MetBelow}
-use Rattle.tables.proofs.comparison.hold_directions.Given as goal
+use Rattle.tables.proofs.literature.hold_directions.Given as goal
 
 abbrev pub invariant-loop-first : goal.invariant-loop-first
 invariant-loop-first l =

@@ -13,7 +13,7 @@ use Rattle.tables.proofs.Charted.{directions_counted, no_direction}
 use Rattle.tables.proofs.Completed.{MetBelow, met_all, met_more}
 use Rattle.tables.proofs.Lacking.{Counts, counts_all, counts_as, counts_item}
 use Rattle.tables.proofs.Rowed.{code_read, held_met, held_score}
-use Rattle.tables.proofs.comparison.hold_directions.Goals as goal
+use Rattle.tables.proofs.literature.hold_directions.Goals as goal
 
 pub loop-second-preserved : goal.loop-second-preserved
 loop-second-preserved c =
