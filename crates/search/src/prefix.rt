@@ -114,6 +114,8 @@ pub(crate) struct Prefixes<'a, T: Tally> {
     ghost low: { Below tables.now.sheet.now.codes cursor.now } by { Prim.hlevel props },
 }
 
+// Which prefix is meant is a number, its length or its last place, which each of four calls asks to be within the pairs. A struct with the
+// length in it is no plainer: `shortest` counts it up, and would make one at each turn.
 impl<'a, T: Tally> Prefixes<'a, T> {
     // Whether one of the triples does not fit that the pair at the place closes.
     fn closes_misfit<K: Kind>(&self, spot: usize) -> bool
