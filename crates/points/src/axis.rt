@@ -71,8 +71,8 @@ impl<const MARKS: usize> Axis<MARKS> {
         }
     }
 
-    // How many marks of item k stand before mark y in the scenario. It is counted in a loop: `filter` and `count` were tried, and the proof
-    // did not close, for the reason given at `order`.
+    // How many marks of item k stand before mark y in the scenario. It is counted in a loop: a chain was tried, and its proof did not
+    // close, for the reason given at `order`.
     fn preceding(&self, scenario: &[u8], k: u8, y: Mark) -> u32
         ensures is { result ≡ count_by (λ x. is_lt (stands (in_scenario (drawn self.now.orders) scenario.now) x y)) (of_item k MARKS []) }
         ensures few { result ≤ 255 }
@@ -93,7 +93,7 @@ impl<const MARKS: usize> Axis<MARKS> {
         ensures compares { RankLemma (ℕ × ℕ) }
         ensures is { result ≡ mark_rank (drawn self.now.orders) MARKS items scenario.now i t }
     {
-        // A loop: `map` and `sum` were tried, and the proof did not close, for the reason given at `order`.
+        // A loop: a chain was tried, and its proof did not close, for the reason given at `order`.
         let mut sum = 0;
         for k in 0..items {
             sum += self.preceding(scenario, k, (i, usize::from(t)));
