@@ -3,7 +3,7 @@ use Rattle.std.proofs.Common.{◌≡◌, ℕ, suc, ◌+◌, List, [], ◌∷◌,
 use Rattle.std.proofs.lemmas.List.{map-append, length-map, nil_from_length}
 use Rattle.reports.specs.Lines.{lines_from}
 
-lines_push : {X : Type 0} (line : ℕ → X → List ℕ) (k : ℕ) (xs : List X) (x : X) → lines_from line k (xs ++ (x ∷ [])) ≡ lines_from line k xs ++ line (k + length xs) x
+pub lines_push : {X : Type 0} (line : ℕ → X → List ℕ) (k : ℕ) (xs : List X) (x : X) → lines_from line k (xs ++ (x ∷ [])) ≡ lines_from line k xs ++ line (k + length xs) x
 lines_push line k [] x = append-nil (line k x) ∙ ap (λ (n : ℕ). line n x) (omega arith)
 lines_push line k (y ∷ ys) x =
     let count : k + 1 + length ys ≡ k + suc (length ys) = omega arith in

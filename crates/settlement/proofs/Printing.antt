@@ -1,0 +1,39 @@
+-- What a text does to the bytes that a writer holds.
+use Rattle.std.proofs.Common.{◌≡◌, ℕ, List, [], ◌++◌, Some, None, Ok, Err, Option, Result, length, take, sym, refl, ap, ◌∙◌, append_assoc, append-nil}
+use Rattle.std.proofs.Math.Seq.{take-append_seam}
+use Rattle.std.specs.Io.KnownBytes.{Appends}
+use Rattle.files.specs.Faults.{SheetFault, answered}
+use Rattle.settlement.specs.declared.stop.Stop.{Stop}
+use Rattle.settlement.specs.declared.stop.Stop.TheVariants.{Unfit, Failed}
+use Rattle.settlement.specs.Output.{Ends, unless_refused}
+
+pub appends_nothing : (o : Option (List ℕ)) → Appends o o []
+appends_nothing None = tt
+appends_nothing (Some xs) = sym (append-nil xs)
+
+-- one text after another
+pub appends_both : (o p q : Option (List ℕ)) (xs ys : List ℕ) → Appends o p xs → Appends p q ys → Appends o q (xs ++ ys)
+appends_both None p q xs ys f g = tt
+appends_both (Some b) None q xs ys f g = absurd f
+appends_both (Some b) (Some c) None xs ys f g = absurd g
+appends_both (Some b) (Some c) (Some d) xs ys f g = g ∙ ap (λ z. z ++ ys) f ∙ append_assoc b xs ys
+
+-- a sheet is refused, and nothing is printed
+pub ends_refused : (o : Option SheetFault) (f : SheetFault) (old : Option (List ℕ)) (text : List ℕ) (r : Result (Unit {0}) Stop) → answered o (tt {0}) ≡ Err f → r ≡ Err (Unfit f)
+    → Ends r o old old (unless_refused o text)
+ends_refused (Some g) f old text r e s = rw s ((ap same e), appends_nothing old)
+  where
+    same : Result (Unit {0}) SheetFault → Option SheetFault
+    same (Err h) = Some h
+    same (Ok _) = None
+ends_refused None f old text r e s = cc
+
+-- or its report is
+pub ends_settled : (o : Option SheetFault) (old new : Option (List ℕ)) (text : List ℕ) → answered o (tt {0}) ≡ Ok (tt {0}) → Appends old new text
+    → (o ≡ None) × Appends old new (unless_refused o text)
+ends_settled (Some g) old new text e a = cc
+ends_settled None old new text e a = (refl, a)
+
+-- the front of a buffer in which a text was put
+pub front : (text rest buffer : List ℕ) (n : ℕ) → n ≡ length text → buffer ≡ text ++ rest → take n buffer ≡ text
+front text rest buffer n e f = ap (take n) f ∙ ap (λ k. take k (text ++ rest)) e ∙ take-append_seam text rest
