@@ -1,9 +1,15 @@
 -- A reader goes through its file, and the report of each sheet is printed.
 use Rattle.std.proofs.Common.{◌≡◌, ℕ, zero, suc, ◌+◌, ◌<◌, ◌≤◌, Bool, true, false, List, [], ◌∷◌, ◌++◌, length, Some, None, Ok, Err, Option, Result, sym, refl, ap, ◌∙◌, subst, append_assoc, append-nil, length-append, length-drop, add-one, arith, rules}
+use Rattle.std.specs.Prelude.{OnOk}
 use Rattle.std.specs.Io.KnownBytes.{Appends}
 use Rattle.std.specs.List.{All}
 use Rattle.std.proofs.lemmas.List.Elements.{All-nil, All-push}
 use Rattle.files.specs.declared.head.Head.{Head}
+use Rattle.files.specs.declared.head.HeadKind.{HeadKind}
+use Rattle.files.specs.declared.head.HeadKind.TheVariants.{Moments, Spells, Dwellings}
+use Rattle.files.specs.declared.head.HeadTally.{HeadTally}
+use Rattle.files.specs.declared.head.HeadTally.TheVariants.{ByWeight, SwornFirst}
+use Rattle.files.specs.Letters.{kind_of, tally_of}
 use Rattle.files.specs.Faults.{SheetFault}
 use Rattle.files.specs.declared.fault.LineFault.TheVariants.{TooLong}
 use Rattle.files.specs.Sheets.{before, nowhere}
@@ -19,12 +25,8 @@ use Rattle.reports.proofs.Lined.{lines_push}
 use Rattle.reports.specs.Spellings.{spelling_of}
 use Rattle.settlement.specs.declared.stop.Stop.{Stop}
 use Rattle.settlement.specs.declared.stop.Stop.TheVariants.{Unfit, Failed}
-use Rattle.settlement.specs.Output.{report_below, ReliableBelow, sheet_report, Reliable, fault_of, settled_sheets, reports_in, AllReliable, Ends, EndsReliably, unless_refused}
+use Rattle.settlement.specs.Output.{fresh, report_as, ReliableAs, by_kind, by_tally, by_head, SettlesAs, report_below, ReliableBelow, sheet_report, Reliable, fault_of, settled_sheets, reports_in, AllReliable, Ends, EndsReliably, unless_refused}
 use Rattle.settlement.proofs.Printing.{appends_nothing, appends_both}
-
--- what a fresh draft has
-abbrev pub fresh : Contents
-fresh = contents 1 []
 
 own : Own spelling_of
 own h k t = search rules
@@ -63,6 +65,32 @@ start_stands file old = record {
   where
     starts_short : too_long file ≡ false → length (start_of file).ahead ≤ length file
     starts_short f = rw f (lines_le file)
+
+-- what settling a sheet comes to, of the kind and the tally that its head names
+module _ (s : Spelling) (h : Head) (n : ℕ) (v : View) (r : Result (Unit {0}) Stop) (w : View) (old new : Option (List ℕ)) where
+  abbrev loads : Contents
+  loads = load_contents s v fresh
+
+  abbrev Settles : HeadKind → HeadTally → Type 0
+  Settles a b = by_kind a (λ V k. by_tally b (λ C t. SettlesAs s k t n v r w old new))
+
+  abbrev Comes : HeadKind → HeadTally → Type 0
+  Comes a b =
+      OnOk r (w ≡ load_after s v)
+      × Ends r (load_fault s v) old new (unless_refused (load_fault s v) (by_kind a (λ V k. by_tally b (λ C t. report_as k t n loads))))
+      × OnOk r (by_kind a (λ V k. by_tally b (λ C t. ReliableAs k t loads)))
+
+  of_each : (a : HeadKind) (b : HeadTally) → Settles a b → Comes a b
+  of_each Moments ByWeight i = (i.after, i.printed, i.reliable)
+  of_each Moments SwornFirst i = (i.after, i.printed, i.reliable)
+  of_each Spells ByWeight i = (i.after, i.printed, i.reliable)
+  of_each Spells SwornFirst i = (i.after, i.printed, i.reliable)
+  of_each Dwellings ByWeight i = (i.after, i.printed, i.reliable)
+  of_each Dwellings SwornFirst i = (i.after, i.printed, i.reliable)
+
+  pub of_head : by_head h (λ V C k t. SettlesAs s k t n v r w old new)
+      → OnOk r (w ≡ load_after s v) × Ends r (load_fault s v) old new (unless_refused (load_fault s v) (report_below h n loads)) × OnOk r (ReliableBelow h loads)
+  of_head i = of_each (kind_of h.letter) (tally_of h.tally) i
 
 -- what the file comes to, where a reading of it is known
 module _ (file : List ℕ) (done : List Sheet) (o : Option SheetFault) (is : reading (length file + 1) (start_of file) ≡ onto done (ended o)) where
@@ -220,3 +248,7 @@ module _ (file : List ℕ) (old new : Option (List ℕ)) (number : ℕ) (v : Vie
     at_loaded x new' f t r =
         subst (Stands file old new' (number + 1)) (sym f)
         (next_stands t.0 new' (subst (λ o. Appends new new' (unless_refused o (report_below h (number + 1) loaded))) t.0 t.1) r)
+
+    -- and the reader is further on
+    pub at_further : (x : View) → x ≡ load_after (spelling_of h) w → load_fault (spelling_of h) w ≡ None → length x.ahead < length v.ahead
+    at_further x f g = rw f (shorter g)

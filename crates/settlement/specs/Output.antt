@@ -1,5 +1,5 @@
 -- All that is printed of a file: the reports of its sheets up to its first fault, and the line of the fault.
-use Rattle.std.specs.Prelude.{◌≡◌, ℕ, Bool, List, [], ◌∷◌, ◌++◌, Some, None, Ok, Err, Option, Result, nat_le}
+use Rattle.std.specs.Prelude.{◌≡◌, ℕ, Bool, List, [], ◌∷◌, ◌++◌, Some, None, Ok, Err, Option, Result, OnOk, nat_le}
 use Rattle.std.specs.Fmt.{decimal}
 use Rattle.std.specs.Io.KnownBytes.{Appends}
 use Rattle.std.specs.List.{All}
@@ -26,7 +26,8 @@ use Rattle.files.specs.Files.{Sheet, file_fault, sheets_of, sheets_before}
 use Rattle.files.specs.declared.head.HeadKind.TheVariants.{Moments, Spells, Dwellings}
 use Rattle.files.specs.declared.head.HeadTally.TheVariants.{ByWeight, SwornFirst}
 use Rattle.files.specs.Letters.{kind_letter, kind_of, tally_letter, tally_of}
-use Rattle.files.specs.Views.{Contents, contents}
+use Rattle.files.specs.Views.{View, Contents, contents, load_fault, load_after, load_contents}
+use Rattle.files.specs.Words.{Spelling}
 use Rattle.reports.specs.Account.{AccountLaw, account_of, report_on}
 use Rattle.reports.specs.Faults.{fault_line}
 use Rattle.reports.specs.Lines.{print, lines_from}
@@ -50,6 +51,13 @@ pub record OfTally (C : Type 0) : Type 0 where
   pub letter : ℕ
   pub text : C → List ℕ
 
+-- put together
+abbrev pub of_kind : {V : Type 0} → Meaning V → (ℕ → ℕ → ℕ → Bool) → (ℕ → List ℕ → ℕ → V) → ℕ → (V → List ℕ) → OfKind V
+of_kind meaning fits values letter text = record { meaning = meaning; fit = fits; values = values; letter = letter; text = text }
+
+abbrev pub of_tally : {C : Type 0} → Joining Claim C → (C → C → Bool) → ℕ → (C → List ℕ) → OfTally C
+of_tally joining order letter text = record { joining = joining; order = order; letter = letter; text = text }
+
 -- each sheet is given a million steps
 abbrev pub steps : ℕ
 steps = 1000000
@@ -57,6 +65,10 @@ steps = 1000000
 -- the rules by which it is searched
 abbrev pub rules_of : {V C : Type 0} → OfKind V → OfTally C → Rules C
 rules_of k t = rules k.meaning k.fit t.joining t.order
+
+-- what a fresh draft has
+abbrev pub fresh : Contents
+fresh = contents 1 []
 
 -- the report of the n-th sheet of a file, of so many items and with these rows
 unfoldable pub report_as : {V C : Type 0} → OfKind V → OfTally C → ℕ → Contents → List ℕ
@@ -152,3 +164,12 @@ EndsReliably (Err (Failed e)) file = Unit {0}
 abbrev pub unless_refused : Option SheetFault → List ℕ → List ℕ
 unless_refused (Some f) text = []
 unless_refused None text = text
+
+-- What settling a sheet as the n-th of its file comes to, by a reader that is seen as v before and as w after; s says how a kind and a
+-- tally are written.
+pub record SettlesAs {V C : Type 0} (s : Spelling) (k : OfKind V) (t : OfTally C) (n : ℕ) (v : View) (r : Result (Unit {0}) Stop) (w : View) (old new : Option (List ℕ)) : Type 0 where
+  -- the sheet is loaded
+  pub after : OnOk r (w ≡ load_after s v)
+  -- and its report printed, or it is refused
+  pub printed : Ends r (load_fault s v) old new (unless_refused (load_fault s v) (report_as k t n (load_contents s v fresh)))
+  pub reliable : OnOk r (ReliableAs k t (load_contents s v fresh))

@@ -1,9 +1,8 @@
 // One sheet of a file is settled.
-ghost use Rattle.std.specs.Prelude.{◌≡◌, OnOk, []};
 ghost use Rattle.reports.specs.Spellings.{spelling_of};
-ghost use Rattle.files.specs.Views.{view_of, load_fault, load_after, load_contents, contents};
+ghost use Rattle.files.specs.Views.{view_of};
 ghost use Rattle.files.specs.Words.{spelled};
-ghost use Rattle.settlement.specs.Output.{report_as, report_below, ReliableAs, ReliableBelow, Ends, unless_refused};
+ghost use Rattle.settlement.specs.Output.{of_kind, of_tally, by_head, SettlesAs};
 
 use crate::stop::Stop;
 use dwellings::Dwellings;
@@ -33,13 +32,9 @@ fn settle_as<K: PrintedKind, T: PrintedTally, W: Write>(
     number: u64,
     out: &mut W,
 ) -> Result<(), Stop>
-    ensures after { OnOk result (view_of reader.new ≡ load_after (spelled K.Kind.meaning K.Notation.words K.Notation.initial T.TallyLetter.initial) (view_of reader.old)) }
-    ensures printed { Ends result (load_fault (spelled K.Kind.meaning K.Notation.words K.Notation.initial T.TallyLetter.initial) (view_of reader.old)) (W.contents out.old) (W.contents out.new)
-        (unless_refused (load_fault (spelled K.Kind.meaning K.Notation.words K.Notation.initial T.TallyLetter.initial) (view_of reader.old))
-            (report_as (record { meaning = K.Kind.meaning; fit = K.Kind.fit; values = K.Kind.values; letter = K.Notation.initial; text = K.PrintedKind.value_text }) (record { joining = T.Joins.joining; order = T.Tally.order; letter = T.TallyLetter.initial; text = T.PrintedTally.cost_text })
-                number (load_contents (spelled K.Kind.meaning K.Notation.words K.Notation.initial T.TallyLetter.initial) (view_of reader.old) (contents 1 [])))) }
-    ensures reliable { OnOk result (ReliableAs (record { meaning = K.Kind.meaning; fit = K.Kind.fit; values = K.Kind.values; letter = K.Notation.initial; text = K.PrintedKind.value_text }) (record { joining = T.Joins.joining; order = T.Tally.order; letter = T.TallyLetter.initial; text = T.PrintedTally.cost_text })
-        (load_contents (spelled K.Kind.meaning K.Notation.words K.Notation.initial T.TallyLetter.initial) (view_of reader.old) (contents 1 []))) }
+    ensures { SettlesAs (spelled K.Kind.meaning K.Notation.words K.Notation.initial T.TallyLetter.initial)
+        (of_kind K.Kind.meaning K.Kind.fit K.Kind.values K.Notation.initial K.PrintedKind.value_text) (of_tally T.Joins.joining T.Tally.order T.TallyLetter.initial T.PrintedTally.cost_text)
+        number (view_of reader.old) result (view_of reader.new) (W.contents out.old) (W.contents out.new) }
 {
     let mut draft = Draft::<K, T>::new(heap)?;
     reader.load(&mut draft)?;
@@ -59,10 +54,7 @@ pub fn settle_sheet<W: Write>(
     number: u64,
     out: &mut W,
 ) -> Result<(), Stop>
-    ensures after { OnOk result (view_of reader.new ≡ load_after (spelling_of head) (view_of reader.old)) }
-    ensures printed { Ends result (load_fault (spelling_of head) (view_of reader.old)) (W.contents out.old) (W.contents out.new)
-        (unless_refused (load_fault (spelling_of head) (view_of reader.old)) (report_below head number (load_contents (spelling_of head) (view_of reader.old) (contents 1 [])))) }
-    ensures reliable { OnOk result (ReliableBelow head (load_contents (spelling_of head) (view_of reader.old) (contents 1 []))) }
+    ensures { by_head head (λ V C k t. SettlesAs (spelling_of head) k t number (view_of reader.old) result (view_of reader.new) (W.contents out.old) (W.contents out.new)) }
 {
     match (head.kind, head.tally) {
         (HeadKind::Moments, HeadTally::ByWeight) => {

@@ -3,9 +3,9 @@ use Rattle.std.specs.Io.KnownBytes.{Appends}
 use Rattle.std.proofs.lemmas.Result.{err_from_is_err_and}
 use Rattle.files.specs.Views.{View, view_of, head_answer, head_after, load_fault, load_after, load_contents}
 use Rattle.reports.specs.Spellings.{spelling_of}
-use Rattle.settlement.specs.Output.{Ends, ReliableBelow, report_below, unless_refused}
+use Rattle.settlement.specs.Output.{fresh, Ends, ReliableBelow, report_below, unless_refused}
 use Rattle.settlement.proofs.Printing.{appends_nothing}
-use Rattle.settlement.proofs.Settling.{Stands, fresh, start_stands, at_refusal, at_end, at_loaded, printed_all, reliable_all, stopped, stopped_reliably}
+use Rattle.settlement.proofs.Settling.{Stands, of_head, start_stands, at_refusal, at_end, at_loaded, at_further, printed_all, reliable_all, stopped, stopped_reliably}
 use Rattle.settlement.proofs.file.settle_sheets.Goals as goal
 
 pub loop-head-init : goal.loop-head-init
@@ -35,11 +35,21 @@ loop-head-preserved g c =
     let new' = g.W.Write.contents c.settle_sheet.new.out in
     let asked : head_answer (view_of c.loop-head.reader) ≡ Ok (Some h) = search rules in
     let after : view_of c.next_head.new.self ≡ head_after (view_of c.loop-head.reader) = search rules in
-    let is = c.in_ok-settle_sheet.ensures in
+    let is = of_head _ h (c.loop-head.number + 1) _ _ _ _ _ c.in_ok-settle_sheet.ensures in
     at_loaded _ _ _ _ _ s h asked (view_of c.settle_sheet.new.reader) new'
-    (subst (λ w. view_of c.settle_sheet.new.reader ≡ load_after (spelling_of h) w) after is.after)
-    (subst (λ w. (load_fault (spelling_of h) w ≡ None) × Appends new new' (unless_refused (load_fault (spelling_of h) w) (report_below h (c.loop-head.number + 1) (load_contents (spelling_of h) w fresh)))) after is.printed)
-    (subst (λ w. ReliableBelow h (load_contents (spelling_of h) w fresh)) after is.reliable)
+    (subst (λ w. view_of c.settle_sheet.new.reader ≡ load_after (spelling_of h) w) after is.0)
+    (subst (λ w. (load_fault (spelling_of h) w ≡ None) × Appends new new' (unless_refused (load_fault (spelling_of h) w) (report_below h (c.loop-head.number + 1) (load_contents (spelling_of h) w fresh)))) after is.1)
+    (subst (λ w. ReliableBelow h (load_contents (spelling_of h) w fresh)) after is.2)
+
+pub loop-head-smaller : goal.loop-head-smaller
+loop-head-smaller g c =
+    let h = c.in-Some.head in
+    let asked : head_answer (view_of c.loop-head.reader) ≡ Ok (Some h) = search rules in
+    let after : view_of c.next_head.new.self ≡ head_after (view_of c.loop-head.reader) = search rules in
+    let is = of_head _ h (c.loop-head.number + 1) _ _ _ _ _ c.in_ok-settle_sheet.ensures in
+    at_further _ _ _ _ _ c.loop-head.invariant h asked (view_of c.settle_sheet.new.reader)
+    (subst (λ w. view_of c.settle_sheet.new.reader ≡ load_after (spelling_of h) w) after is.0)
+    (subst (λ w. load_fault (spelling_of h) w ≡ None) after is.1.0)
 
 pub returns-in_err-settle_sheet-clause-printed : goal.returns-in_err-settle_sheet-clause-printed
 returns-in_err-settle_sheet-clause-printed g c =
@@ -51,7 +61,7 @@ returns-in_err-settle_sheet-clause-printed g c =
     let after : view_of c.next_head.new.self ≡ head_after (view_of c.loop-head.reader) = search rules in
     let Ended : View → Type 0 = λ w. Ends (Err stop) (load_fault (spelling_of h) w) (g.W.Write.contents c.loop-head.out) new'
         (unless_refused (load_fault (spelling_of h) w) (report_below h (c.loop-head.number + 1) (load_contents (spelling_of h) w fresh))) in
-    rw (p.1, p.2) (stopped _ _ _ _ _ c.loop-head.invariant h asked stop new' _ (subst Ended after c.in_err-settle_sheet.ensures.printed))
+    rw (p.1, p.2) (stopped _ _ _ _ _ c.loop-head.invariant h asked stop new' _ (subst Ended after (of_head _ h (c.loop-head.number + 1) _ _ _ _ _ c.in_err-settle_sheet.ensures).1))
 
 pub returns-in_err-settle_sheet-clause-reliable : goal.returns-in_err-settle_sheet-clause-reliable
 returns-in_err-settle_sheet-clause-reliable g c =
@@ -63,7 +73,7 @@ returns-in_err-settle_sheet-clause-reliable g c =
     let after : view_of c.next_head.new.self ≡ head_after (view_of c.loop-head.reader) = search rules in
     let Ended : View → Type 0 = λ w. Ends (Err stop) (load_fault (spelling_of h) w) (g.W.Write.contents c.loop-head.out) new'
         (unless_refused (load_fault (spelling_of h) w) (report_below h (c.loop-head.number + 1) (load_contents (spelling_of h) w fresh))) in
-    rw (p.1, p.2) (stopped_reliably _ _ _ _ _ c.loop-head.invariant h asked stop new' _ (subst Ended after c.in_err-settle_sheet.ensures.printed))
+    rw (p.1, p.2) (stopped_reliably _ _ _ _ _ c.loop-head.invariant h asked stop new' _ (subst Ended after (of_head _ h (c.loop-head.number + 1) _ _ _ _ _ c.in_err-settle_sheet.ensures).1))
 
 pub returns-clause-printed : goal.returns-clause-printed
 returns-clause-printed g c =
