@@ -4,8 +4,8 @@ use Rattle.std.proofs.Math.Seq.{take-append_seam}
 use Rattle.std.specs.Io.KnownBytes.{Appends}
 use Rattle.files.specs.Faults.{SheetFault, answered}
 use Rattle.settlement.specs.declared.stop.Stop.{Stop}
-use Rattle.settlement.specs.declared.stop.Stop.TheVariants.{Unfit, Failed}
-use Rattle.settlement.specs.Output.{Ends, unless_refused}
+use Rattle.settlement.specs.declared.stop.Stop.TheVariants.{Unfit}
+use Rattle.settlement.specs.Ends.{Ends, unless_refused}
 
 pub appends_nothing : (o : Option (List ℕ)) → Appends o o []
 appends_nothing None = tt

@@ -13,9 +13,9 @@ use Rattle.files.specs.Letters.{kind_of, tally_of}
 use Rattle.files.specs.Faults.{SheetFault}
 use Rattle.files.specs.declared.fault.LineFault.TheVariants.{TooLong}
 use Rattle.files.specs.Sheets.{before, nowhere}
-use Rattle.files.specs.Views.{View, Contents, contents, too_long, start_of, fits_draft, head_answer, head_move, head_after, load_fault, load_move, load_after, load_contents}
+use Rattle.files.specs.Views.{View, Contents, contents, too_long, start_of, head_answer, head_move, head_after, load_fault, load_move, load_after, load_contents}
 use Rattle.files.specs.Words.{Spelling}
-use Rattle.files.specs.Files.{Sheet, Between, Takes, Reading, ended, then_load, then_head, drafted, read_all, Own, ReadsWith}
+use Rattle.files.specs.Files.{Sheet, Between, Reading, ended, then_load, then_head, drafted, read_all, Own, ReadsWith}
 use Rattle.files.proofs.Parting.{lines_le}
 use Rattle.files.proofs.Readings.{reads_file}
 use Rattle.files.proofs.Standing.{some_ahead}
@@ -25,7 +25,9 @@ use Rattle.reports.proofs.Lined.{lines_push}
 use Rattle.reports.specs.Spellings.{spelling_of}
 use Rattle.settlement.specs.declared.stop.Stop.{Stop}
 use Rattle.settlement.specs.declared.stop.Stop.TheVariants.{Unfit, Failed}
-use Rattle.settlement.specs.Output.{fresh, report_as, ReliableAs, by_kind, by_tally, by_head, SettlesAs, report_below, ReliableBelow, sheet_report, Reliable, fault_of, settled_sheets, reports_in, AllReliable, Ends, EndsReliably, unless_refused}
+use Rattle.settlement.specs.Named.{by_kind, by_tally, by_head}
+use Rattle.settlement.specs.Output.{report_as, ReliableAs, report_below, ReliableBelow, sheet_report, Reliable, fault_of, settled_sheets, reports_in, AllReliable}
+use Rattle.settlement.specs.Ends.{fresh, SettlesAs, Ends, EndsReliably, unless_refused}
 use Rattle.settlement.proofs.Printing.{appends_nothing, appends_both}
 
 own : Own spelling_of

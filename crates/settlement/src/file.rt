@@ -2,7 +2,8 @@
 ghost use Rattle.std.specs.Prelude.{◌≡◌, IfOk, IfSome, OnOk, is_none, take};
 ghost use Rattle.std.specs.Io.KnownBytes.{Appends};
 ghost use Rattle.reports.specs.Faults.{fault_line};
-ghost use Rattle.settlement.specs.Output.{fault_of, reports_in, output_of, AllReliable, Ends, EndsReliably};
+ghost use Rattle.settlement.specs.Output.{fault_of, reports_in, output_of, AllReliable};
+ghost use Rattle.settlement.specs.Ends.{Ends, EndsReliably};
 
 use crate::sheet::settle_sheet;
 use crate::stop::{Failure, Stop};
@@ -68,7 +69,11 @@ fn read_file<R: Read + Drop>(heap: Global, input: R) -> io::Result<Vec<u8>>
 }
 
 /// Settles, likewise, the file that is read to its end, or as far as shows that it is too long.
-pub fn settle<R: Read + Drop, W: Write>(heap: Global, input: R, out: &mut W) -> Result<bool, Failure>
+pub fn settle<R: Read + Drop, W: Write>(
+    heap: Global,
+    input: R,
+    out: &mut W,
+) -> Result<bool, Failure>
     ensures fits { IfSome (R.remaining input) (λ file. IfOk result (λ fits. fits ≡ is_none (fault_of file))) }
     ensures printed { IfSome (R.remaining input) (λ file. OnOk result (Appends (W.contents out.old) (W.contents out.new) (output_of file))) }
     ensures reliable { IfSome (R.remaining input) (λ file. OnOk result (AllReliable file)) }

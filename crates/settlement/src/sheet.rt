@@ -2,7 +2,8 @@
 ghost use Rattle.reports.specs.Spellings.{spelling_of};
 ghost use Rattle.files.specs.Views.{view_of};
 ghost use Rattle.files.specs.Words.{spelled};
-ghost use Rattle.settlement.specs.Output.{of_kind, of_tally, by_head, SettlesAs};
+ghost use Rattle.settlement.specs.Named.{of_kind, of_tally, by_head};
+ghost use Rattle.settlement.specs.Ends.{SettlesAs};
 
 use crate::stop::Stop;
 use dwellings::Dwellings;

@@ -6,8 +6,7 @@ ghost use Rattle.settlement.specs.declared.stop.Stop.TheVariants.{Unfit, Failed}
 use files::fault::SheetFault;
 use statements::fault::Fault;
 use std::error::Error;
-use std::fmt;
-use std::io;
+use std::{fmt, io};
 
 /// Why a file can't be settled, whatever it says.
 #[derive(Debug, Drop)]

@@ -1,4 +1,4 @@
-// Tests of the calls of sheets and of the reader of files at the edges of what they accept, by the numbers of their refusals.
+// Tests of the calls of sheets and of the reader of files at the edges of what they accept, by the numbers of their refusals, and of whole files.
 #![tactic(auto)]
 
 #[cfg(test)]
@@ -11,3 +11,5 @@ mod readers;
 mod scripts;
 #[cfg(test)]
 mod searches;
+#[cfg(test)]
+mod settling;

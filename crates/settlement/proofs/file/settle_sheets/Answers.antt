@@ -1,9 +1,10 @@
-use Rattle.std.proofs.Common.{◌≡◌, ◌+◌, Some, None, Ok, Err, rules, sym, refl, ap, ◌∙◌, subst}
+use Rattle.std.proofs.Common.{◌≡◌, ◌+◌, Some, None, Ok, Err, rules, sym, subst}
 use Rattle.std.specs.Io.KnownBytes.{Appends}
 use Rattle.std.proofs.lemmas.Result.{err_from_is_err_and}
 use Rattle.files.specs.Views.{View, view_of, head_answer, head_after, load_fault, load_after, load_contents}
 use Rattle.reports.specs.Spellings.{spelling_of}
-use Rattle.settlement.specs.Output.{fresh, Ends, ReliableBelow, report_below, unless_refused}
+use Rattle.settlement.specs.Output.{ReliableBelow, report_below}
+use Rattle.settlement.specs.Ends.{fresh, Ends, unless_refused}
 use Rattle.settlement.proofs.Printing.{appends_nothing}
 use Rattle.settlement.proofs.Settling.{Stands, of_head, start_stands, at_refusal, at_end, at_loaded, at_further, printed_all, reliable_all, stopped, stopped_reliably}
 use Rattle.settlement.proofs.file.settle_sheets.Goals as goal
@@ -60,7 +61,7 @@ returns-in_err-settle_sheet-clause-printed g c =
     let asked : head_answer (view_of c.loop-head.reader) ≡ Ok (Some h) = search rules in
     let after : view_of c.next_head.new.self ≡ head_after (view_of c.loop-head.reader) = search rules in
     let Ended : View → Type 0 = λ w. Ends (Err stop) (load_fault (spelling_of h) w) (g.W.Write.contents c.loop-head.out) new'
-        (unless_refused (load_fault (spelling_of h) w) (report_below h (c.loop-head.number + 1) (load_contents (spelling_of h) w fresh))) in
+    (unless_refused (load_fault (spelling_of h) w) (report_below h (c.loop-head.number + 1) (load_contents (spelling_of h) w fresh))) in
     rw (p.1, p.2) (stopped _ _ _ _ _ c.loop-head.invariant h asked stop new' _ (subst Ended after (of_head _ h (c.loop-head.number + 1) _ _ _ _ _ c.in_err-settle_sheet.ensures).1))
 
 pub returns-in_err-settle_sheet-clause-reliable : goal.returns-in_err-settle_sheet-clause-reliable
@@ -72,7 +73,7 @@ returns-in_err-settle_sheet-clause-reliable g c =
     let asked : head_answer (view_of c.loop-head.reader) ≡ Ok (Some h) = search rules in
     let after : view_of c.next_head.new.self ≡ head_after (view_of c.loop-head.reader) = search rules in
     let Ended : View → Type 0 = λ w. Ends (Err stop) (load_fault (spelling_of h) w) (g.W.Write.contents c.loop-head.out) new'
-        (unless_refused (load_fault (spelling_of h) w) (report_below h (c.loop-head.number + 1) (load_contents (spelling_of h) w fresh))) in
+    (unless_refused (load_fault (spelling_of h) w) (report_below h (c.loop-head.number + 1) (load_contents (spelling_of h) w fresh))) in
     rw (p.1, p.2) (stopped_reliably _ _ _ _ _ c.loop-head.invariant h asked stop new' _ (subst Ended after (of_head _ h (c.loop-head.number + 1) _ _ _ _ _ c.in_err-settle_sheet.ensures).1))
 
 pub returns-clause-printed : goal.returns-clause-printed

@@ -1,10 +1,12 @@
-use Rattle.std.proofs.Common.{◌≡◌, ℕ, List, [], Ok, Err, take, rules, ap, ◌∙◌, subst}
+use Rattle.std.proofs.Common.{◌≡◌, ℕ, List, Ok, Err, take, rules, ap, ◌∙◌, subst}
 use Rattle.std.proofs.lemmas.Result.{err_from_is_err_and}
 use Rattle.std.specs.Io.KnownBytes.{Appends}
 use Rattle.files.specs.Faults.{answered}
-use Rattle.files.specs.Views.{Contents, view_of, load_fault, load_contents, contents}
+use Rattle.files.specs.Views.{view_of, load_fault, load_contents, contents}
 use Rattle.files.specs.Words.{spelled}
-use Rattle.settlement.specs.Output.{of_kind, of_tally, fresh, report_as, ReliableAs}
+use Rattle.settlement.specs.Named.{of_kind, of_tally}
+use Rattle.settlement.specs.Output.{report_as, ReliableAs}
+use Rattle.settlement.specs.Ends.{fresh}
 use Rattle.settlement.proofs.Printing.{ends_refused, ends_settled, front}
 use Rattle.settlement.proofs.sheet.settle_as.Goals as goal
 
