@@ -10,7 +10,7 @@ loop-line-preserved c =
     passed c.args.self.now.place c.loop-line.self.place (lines c.args.self.now.ahead.rest.now) (lines c.loop-line.self.ahead.rest.now) (lines c.next.new.self.rest.now) c.in-Some.line.now
     c.loop-line.invariant c.in-Some.ensures.steps (no_head c.in-Some.line.now (sym c.class_of.ensures ∙ h.is-1)) (some_sheet c.loop-line.self.place (sym c.state.ensures ∙ h.is-0))
 
--- Given, since the search for it takes 18 s where it fails.
+-- These two are given, since the searches for them take 18 s where they fail.
 pub returns-in-NoSheet-StatementLine-clause-answer : goal.returns-in-NoSheet-StatementLine-clause-answer
 returns-in-NoSheet-StatementLine-clause-answer c =
     let h = c.in-NoSheet-StatementLine in
@@ -19,7 +19,6 @@ returns-in-NoSheet-StatementLine-clause-answer c =
     ∙ strayed c.args.self.now.place q (lines c.args.self.now.ahead.rest.now) (lines c.loop-line.self.ahead.rest.now) (lines c.next.new.self.rest.now) c.in-Some.line.now
     c.loop-line.invariant c.in-Some.ensures.steps (no_head c.in-Some.line.now (sym c.class_of.ensures ∙ h.is-1)) (no_sheet q (sym c.state.ensures ∙ h.is-0))
 
--- Given, since the search for it takes 17 s where it fails.
 pub returns-in-NoSheet-StatementLine-clause-moved : goal.returns-in-NoSheet-StatementLine-clause-moved
 returns-in-NoSheet-StatementLine-clause-moved c =
     let was = c.loop-line.invariant in (
