@@ -8,7 +8,7 @@ use Rattle.files.specs.Faults.{SheetFault}
 use Rattle.files.specs.Heads.{is_head, head_in}
 use Rattle.files.specs.Sheets.{before, onward, head_place, located, stray_fault, next_head, class_of, state_of}
 use Rattle.files.specs.declared.class.Class.TheVariants.{HeadLine, StatementLine}
-use Rattle.files.specs.declared.class.State.TheVariants.{InSheet}
+use Rattle.files.specs.declared.class.State.TheVariants.{NoSheet, InSheet}
 use Rattle.std.proofs.lemmas.Bool.{cond-false, and_left, ne_eqb}
 
 -- from q, with ms still to come, the answer is that from p, with ls to come
@@ -104,3 +104,12 @@ no_head l e = grind (arith, nat_tests)
 -- a sheet has begun
 pub some_sheet : (p : Place) → state_of p ≡ InSheet → p.sheet ≡ 0 → ⊥
 some_sheet p e z = grind (arith, nat_tests)
+
+-- no sheet has begun
+pub no_sheet : (p : Place) → state_of p ≡ NoSheet → p.sheet ≡ 0
+no_sheet p e = grind (arith, nat_tests)
+
+-- and then a statement's line is the fault
+pub strayed : (p q : Place) (ls ms ns : List (List ℕ)) (l : List ℕ) → Same p ls q ms → ms ≡ l ∷ ns → is_head l ≡ false → q.sheet ≡ 0 → Err (record { place = onward q; fault = stray_fault l }) ≡ next_head p ls
+strayed p q ls ms ns l s e h z =
+    ap (λ n. Err (record { place = record { sheet = n; line = q.line + 1 }; fault = stray_fault l })) z ∙ sym (at_stray q l ns h z) ∙ ap (next_head q) (sym e) ∙ s.answer

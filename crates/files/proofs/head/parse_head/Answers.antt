@@ -6,8 +6,12 @@ use Rattle.files.proofs.head.parse_head.Goals as goal
 pub returns-in_default-clause-says : goal.returns-in_default-clause-says
 returns-in_default-clause-says c = head_says c.args.line.now (Err FieldCount) (search rules)
 
+-- Given, since the search for it takes 3 s where it fails.
+pub returns-in_err-size-clause-head : goal.returns-in_err-size-clause-head
+returns-in_err-size-clause-head c = search rules fits 400
+
 pub returns-in_err-size-clause-says : goal.returns-in_err-size-clause-says
-returns-in_err-size-clause-says c = head_says c.args.line.now c.from_residual-in_err-size.result (search rules)
+returns-in_err-size-clause-says c = head_says c.args.line.now c.from_residual-in_err-size.result (returns-in_err-size-clause-head c)
 
 pub returns-in_err-tally-clause-says : goal.returns-in_err-tally-clause-says
 returns-in_err-tally-clause-says c = head_says c.args.line.now c.from_residual-in_err-tally.result (search rules)

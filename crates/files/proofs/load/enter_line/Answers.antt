@@ -1,3 +1,4 @@
+use Rattle.std.proofs.Common.{rules}
 use Rattle.std.proofs.lemmas.Result.{err_from_is_err_and}
 use Rattle.files.specs.Drafts.{refusal_field, entry_refusal}
 use Rattle.files.specs.Statements.{statement_fault, entry_of}
@@ -11,3 +12,7 @@ returns-in_err-enter_at-clause-answer g c =
     let s = spelled g.K.Kind.meaning g.K.Notation.words g.K.Notation.initial g.T.TallyLetter.initial in
     let d = c.args.draft.now in
     rw (p.1, p.2) (entry_refused (statement_fault s.code c.args.line.now) (refusal_field d.items) (entry_refusal s d.items d.rows.items) c.in_ok-entry.entry (entry_of s.code c.args.line.now) _ c.in_ok-entry.ensures.entry c.in_err-enter_at.ensures.answer)
+
+-- Given, since the search for it takes 8 s where it fails.
+pub returns-in_err-entry-clause-entered : goal.returns-in_err-entry-clause-entered
+returns-in_err-entry-clause-entered g c = search rules fits 100
