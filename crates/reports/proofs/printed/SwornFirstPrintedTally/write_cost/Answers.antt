@@ -1,6 +1,0 @@
-use Rattle.std.proofs.Common.{rules}
-use Rattle.reports.proofs.printed.SwornFirstPrintedTally.write_cost.Goals as goal
-
--- Given, since the search for it takes 3 s where it fails.
-pub returns : goal.returns
-returns c = search rules fits 100
