@@ -1,6 +1,6 @@
 -- Lower bounds: the bound of a prefix is the cost of some codes that begin with it, and at most the cost of all that do.
 use Rattle.std.proofs.Common.{◌≡◌, ℕ, zero, suc, ◌+◌, ◌-◌, ◌<◌, ◌≤◌, Bool, true, false, cond, eqb, ltb, List, length, get_or, take, filter, sym, refl, ap, ◌∙◌, subst, inl, inr, eq-or-lt_of_le, arith}
-use Rattle.std.proofs.ByRecursion.{All-get_or}
+use Rattle.std.proofs.lemmas.List.Elements.{All-from_recursion}
 use Rattle.std.proofs.lemmas.Bool.{cond_both, lt-ltb, le-ltb, ltb-true}
 use Rattle.points.specs.Scenarios.{pairs, entry}
 use Rattle.tallies.specs.Joins.{Joining, Monoid, Ranking, joined, most_penalties}
@@ -159,7 +159,7 @@ module _ {C : Type 0} (j : Joining Claim C) (m : Monoid j) (at_most : C → C �
         (groups_below (of_rows j) (monoid_along claim_of j m) at_most (ranking_along claim_of j at_most ranking) spot
         (λ (r : Row). breaks r (o (spot r))) (λ (r : Row). breaks r (w (spot r))) 0 (pairs n) xs (few_counting n rows proper) (keys_spot n rows proper)
         (λ s lo hi.
-        let code : get_or e s 0 < b = All-get_or (λ c. c < b) e s 0 (omega arith) low in
+        let code : get_or e s 0 < b = All-from_recursion (λ c. c < b) e low s 0 (omega arith) in
         subst (λ (z : List Row). at_most (joined (of_rows j) z) (joined (of_rows j) (group spot s (broken_at w xs))) ≡ true) (pair_broken o s xs)
         (subst (λ (z : List Row). at_most (pair_cost j rows s (o s)) (joined (of_rows j) z) ≡ true) (pair_broken w s xs)
         (completed_below q a e shared s code))))

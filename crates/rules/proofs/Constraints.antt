@@ -1,7 +1,7 @@
 -- Rows that state a network cost as many as the constraints that are left unsatisfied, so a finished search solves MAX-QCN.
 use Rattle.std.proofs.Common.{◌≡◌, ℕ, zero, suc, ◌+◌, ◌<◌, ◌≤◌, Bool, not, cond, List, [], ◌∷◌, length, get_or, filter, count_by, sym, refl, ap, ◌∙◌, inl, inr, arith}
 use Rattle.std.specs.List.{AllByRecursion as Every, list_all, range_with_len}
-use Rattle.std.proofs.ByRecursion.{all_kept_by}
+use Rattle.rules.proofs.Elements.{all_kept_by}
 use Rattle.std.proofs.lemmas.Bool.{cases_Bool, leb-true}
 use Rattle.std.proofs.lemmas.List.Sums.{sum_by-cons}
 use Rattle.points.specs.Scenarios.{pairs, entry}

@@ -3,7 +3,8 @@ use Rattle.std.proofs.Common.{◌≡◌, ℕ, zero, suc, ◌+◌, ◌-◌, ◌*�
 use native.Mathlib.Nat.{pow-zero}
 use lib.Arith.{digits_div}
 use Rattle.std.proofs.lemmas.List.{length-append, length-drop, length-replicate, length-take-le, take-append-drop, set_at, get_or_at}
-use Rattle.std.proofs.ByRecursion.{All-get_or, All-append, All-take, All-drop}
+use Rattle.rules.proofs.Elements.{All-append, All-take, All-drop}
+use Rattle.std.proofs.lemmas.List.Elements.{All-from_recursion}
 use Rattle.rules.specs.Orders.{Below, index, digits, past, Numbers, Skips}
 use Rattle.rules.proofs.Orders.{shares_prefix, past_beyond, index_lt, index_same, index_digits, index_zeros, below_zeros, below_digits, length_digits}
 
@@ -103,7 +104,7 @@ index_more b i a l =
 past_carry : (b i : ℕ) (a : List ℕ) → Below b a → i < length a → b ≤ get_or a i 0 + 1
     → past b (length a) (suc i) (index b a) ≡ past b (length a) i (index b a)
 past_carry b i a h l top =
-    let low : get_or a i 0 < b = All-get_or (λ c. c < b) a i 0 l h in
+    let low : get_or a i 0 < b = All-from_recursion (λ c. c < b) a h i 0 l in
     let len : length a - i ≡ suc (length a - suc i) = omega arith in
     let up : (index b (take (suc i) a) + 1) ≡ (index b (take i a) + 1) * b =
     ap (λ (z : ℕ). z + 1) (index_more b i a l) ∙ (let e = add-mul (index b (take i a)) 1 b in let o = one-mul b in omega (arith, e, o, low, top)) in

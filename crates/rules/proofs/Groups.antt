@@ -1,6 +1,6 @@
 -- Spans of the groups of a list: split at a key, extended by one key, and compared group by group.
 use Rattle.std.proofs.Common.{◌≡◌, ℕ, zero, suc, ◌+◌, ◌-◌, ◌<◌, ◌≤◌, Bool, true, not, ◌&&◌, eqb, ltb, leb, List, [], ◌∷◌, ◌++◌, length, filter, sym, refl, ap, ◌∙◌, arith}
-use Rattle.std.proofs.ByRecursion.{All-weaker, kept_by_passes}
+use Rattle.rules.proofs.Elements.{All-weaker, kept_by_passes}
 use Rattle.std.proofs.lemmas.List.Filters.{length-filter_both}
 use Rattle.std.proofs.lemmas.Bool.{and_parts, leb-true, ltb-true}
 use Rattle.std.proofs.lemmas.Bool.Decides.{nat_tests}

@@ -1,4 +1,5 @@
 -- The lemmas, by topic.
+pub mod Elements
 pub mod Properly
 pub mod Filters
 pub mod Orders

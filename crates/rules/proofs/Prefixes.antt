@@ -1,6 +1,6 @@
 -- The lower bound of a prefix is the least cost of all codes that begin with it.
 use Rattle.std.proofs.Common.{◌≡◌, ℕ, ◌-◌, ◌<◌, ◌≤◌, ltb, List, length, get_or, take, sym, ap, ◌∙◌, arith}
-use Rattle.std.proofs.ByRecursion.{All-get_or}
+use Rattle.std.proofs.lemmas.List.Elements.{All-from_recursion}
 use Rattle.std.proofs.lemmas.Bool.{cond_both, cond-true, lt-ltb, ltb-true}
 use Rattle.std.proofs.lemmas.List.{get_or-take, length-take-le, ext_get_or}
 use Rattle.points.specs.Scenarios.{pairs, place, entry}
@@ -27,7 +27,7 @@ module _ {C : Type 0} (r : Rules C) (monoid : Monoid r.joining) (some : 1 ≤ r.
       let found = least_attained r.at_most (pair_cost r.joining rows s) (r.codes - 1) in
       let least : cheapest r.joining r.at_most r.codes rows s < r.codes = omega (arith, found.1, some) in
       cond_both (ltb s q) (get_or a s 0) (cheapest r.joining r.at_most r.codes rows s) (λ c. c < r.codes)
-      (λ e. All-get_or (λ c. c < r.codes) a s 0 (omega (arith, ltb-true s q e)) low) (λ e. least)
+      (λ e. All-from_recursion (λ c. c < r.codes) a low s 0 (omega (arith, ltb-true s q e))) (λ e. least)
 
   -- The codes that begin with the prefix and cost least.
   abbrev completion : List ℕ

@@ -2,7 +2,8 @@
 use Rattle.std.proofs.Common.{◌≡◌, ℕ, ◌<◌, ◌≤◌, true, ltb, leb, List, [], ◌∷◌, ◌++◌, length, get_or, set, sym, refl, subst, arith}
 use Rattle.std.specs.List.{AllByRecursion as Every}
 use Rattle.std.proofs.lemmas.List.{length-set, length_push}
-use Rattle.std.proofs.ByRecursion.{All-push, All-set, All-get_or, All-weaker}
+use Rattle.rules.proofs.Elements.{All-push, All-set, All-weaker}
+use Rattle.std.proofs.lemmas.List.Elements.{All-from_recursion}
 use Rattle.std.proofs.lemmas.Bool.{and_parts, and_from, le-leb, lt-ltb, leb-true, ltb-true}
 use Rattle.rules.specs.declared.row.Row.{Row}
 use Rattle.rules.specs.Rows.{Proper, with_weight}
@@ -91,7 +92,7 @@ proper_set n rows i r h sound =
 
 -- one row read
 pub proper_at : (n : ℕ) (rows : List Row) (i : ℕ) (d : Row) → i < length rows → proper n rows ≡ true → Sound n (get_or rows i d)
-proper_at n rows i d l h = All-get_or (Sound n) rows i d l (sound_rows n rows h)
+proper_at n rows i d l h = All-from_recursion (Sound n) rows (sound_rows n rows h) i d l
 
 -- the same of a row that was read
 pub proper_read : (n : ℕ) (rows : List Row) (i : ℕ) (r : Row) → i < length rows → r ≡ get_or rows i r → proper n rows ≡ true → Sound n r

@@ -1,6 +1,6 @@
 -- Refuted prefixes: no assignment that shares one costs less; and where none is refuted, the scenario fits.
 use Rattle.std.proofs.Common.{◌≡◌, ℕ, ◌+◌, ◌<◌, ◌≤◌, Bool, true, false, not, ◌&&◌, ltb, List, length, take, Decides, sym, ◌∙◌, subst, inl, inr, arith}
-use Rattle.std.proofs.ByRecursion.{All-get_or}
+use Rattle.std.proofs.lemmas.List.Elements.{All-from_recursion}
 use Rattle.std.proofs.lemmas.Bool.{cases_Bool, both_ways, and_parts, and_from, or_cases, not-true, not_from_false, lt-ltb, ltb-true}
 use Rattle.points.specs.Scenarios.{pairs, place, entry}
 use Rattle.points.proofs.Placed.{pairs_up, place_within}
@@ -83,7 +83,7 @@ module _ {V C : Type 0} (m : Meaning V) (laws : Laws m) (fit : ℕ → ℕ → �
   -- A scenario with no triple that does not fit, and codes only, fits.
   pub fitting_whole : (a : List ℕ) → length a ≡ pairs n → Below m.codes a → unfit the_rules n (pairs n) a ≡ false → Fitting m n a
   fitting_whole a long low good = record {
-    codes = λ i k ik kn. All-get_or (λ c. c < m.codes) a (place i k) 0 (omega (arith, place_within i k n ik kn)) low;
+    codes = λ i k ik kn. All-from_recursion (λ c. c < m.codes) a low (place i k) 0 (omega (arith, place_within i k n ik kn));
     triples = λ i k l ik kl ln. elim (cases_Bool (fit (entry a i k) (entry a k l) (entry a i l))) [
       | inl fits ↦ (decides (entry a i k) (entry a k l) (entry a i l)).0 fits
       | inr fails ↦ absurd (both_ways (unfit the_rules n (pairs n) a) good

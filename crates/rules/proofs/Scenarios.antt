@@ -1,6 +1,6 @@
 -- The scenario of given codes: its length, its entries, and that these determine it.
 use Rattle.std.proofs.Common.{◌≡◌, ℕ, zero, suc, ◌+◌, ◌<◌, List, [], ◌∷◌, ◌++◌, length, get_or, sym, refl, ap, ◌∙◌, inl, inr, arith, length-append}
-use Rattle.std.proofs.ByRecursion.{All-append, All-push}
+use Rattle.rules.proofs.Elements.{All-append, All-push}
 use Rattle.std.proofs.lemmas.List.{get_or_append_left, get_or-append-add, get_or_push, ext_get_or}
 use Rattle.std.proofs.lemmas.Bool.{cases_lt}
 use Rattle.points.specs.Scenarios.{pairs, place, entry}

@@ -4,7 +4,7 @@ use Rattle.std.specs.Option.{ForSome}
 use native.Mathlib.Nat.{pow-zero}
 use Rattle.std.specs.declared.alloc.Global.{Global}
 use Rattle.std.proofs.lemmas.Bool.{not-false, not-true, and_parts, and_from, ltb-true, lt-ltb, le-leb, lt-leb, leb-true}
-use Rattle.std.proofs.ByRecursion.{All-append}
+use Rattle.rules.proofs.Elements.{All-append}
 use Rattle.std.proofs.lemmas.List.{length-set, length-take-le, length-append, length-drop, get_or-append_right, get_or-drop, take_at, take_more_set, take-replicate}
 use Rattle.points.specs.Scenarios.{pairs}
 use Rattle.points.proofs.Placed.{pairs_up}

@@ -1,4 +1,4 @@
-use Rattle.std.proofs.Common.{◌≡◌, ◌∷◌, ◌-◌, ◌+◌, ◌++◌, [], ap, sym, ◌∙◌, map, arith}
+use Rattle.std.proofs.Common.{rules, ◌≡◌, ◌∷◌, ◌-◌, ◌+◌, ◌++◌, [], ap, sym, ◌∙◌, map, arith}
 use Rattle.std.specs.List.{range_with_len}
 use Rattle.std.proofs.lemmas.List.FromFn.{map-range_with_len_more}
 use Rattle.runs.specs.declared.call.Call.TheVariants.{Close, Search, Show, Charge}
@@ -17,3 +17,7 @@ unfolding settling
 returns c =
     let count : c.loop-person.person - 1 ≡ 20 = omega arith in
     c.loop-person.invariant ∙ ap (λ n. Close ∷ Search c.args.steps ∷ Show 12 ∷ map Charge (range_with_len 1 n)) count
+
+-- Given, since the search for it takes 8 s where it fails.
+pub loop-person-init : goal.loop-person-init
+loop-person-init c = search rules fits 100

@@ -1,7 +1,12 @@
 -- MAX-QCN, from the counts of constraints.
+use Rattle.std.proofs.Common.{refl}
 use Rattle.rules.proofs.Constraints.{costs_count, max_qcn}
 use Rattle.rules.proofs.Stated.{every_stated}
 use Rattle.rules.proofs.networks.max_qcn.Goals as goal
+
+-- Given, since the search for it takes 4 s where it fails.
+pub returns-clause-weight : goal.returns-clause-weight
+returns-clause-weight g c = refl
 
 pub returns-clause-stated : goal.returns-clause-stated
 returns-clause-stated g c = every_stated

@@ -10,3 +10,7 @@ returns-in_err-strike-in-Strike-clause-carries g c = search rules fits 100
 
 pub returns-in_err-reweigh-in-Reweigh-clause-carries : goal.returns-in_err-reweigh-in-Reweigh-clause-carries
 returns-in_err-reweigh-in-Reweigh-clause-carries g c = search rules fits 100
+
+-- Given, since the search for it takes 9 s where it fails.
+pub returns-clause-unmade : goal.returns-clause-unmade
+returns-clause-unmade g c = search rules fits 400

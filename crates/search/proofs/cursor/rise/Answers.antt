@@ -1,5 +1,6 @@
 -- A turn sets a code to 0 and carries, or raises it.
 use Rattle.std.proofs.Common.{◌≡◌, ℕ, ◌+◌, ◌-◌, ◌<◌, ◌≤◌, length, get_or, sym, ap, ◌∙◌, subst, arith}
+use Rattle.std.proofs.lemmas.Grind.{elements}
 use Rattle.rules.specs.Orders.{Below, index, past}
 use Rattle.rules.proofs.Cursors.{below_front, past_none, turn_rise, turn_zero, turn_carry}
 use Rattle.search.proofs.cursor.rise.Goals as goal
@@ -37,3 +38,7 @@ pub returns-clause-low : goal.returns-clause-low
 returns-clause-low c =
     subst (Below c.args.codes) (sym c.loop-i.invariant.1)
     (below_front c.args.codes c.loop-i.i (length c.args.cursor.now - c.loop-i.i) c.args.cursor.now (omega (arith, c.requires.coded)) c.requires.low)
+
+-- Given, since the search for it takes 4 s where it fails.
+pub loop-i-init : goal.loop-i-init
+loop-i-init c = grind (arith, elements) steps 100000

@@ -1,7 +1,12 @@
 -- The theorems on joins, from the law of the bound.
+use Rattle.std.proofs.Common.{refl}
 use Rattle.tallies.proofs.Groups.{regroup}
 use Rattle.tallies.proofs.Shapes.{joined_listing, monoid_of_shapes}
 use Rattle.tallies.proofs.cost.joins_up_to.Goals as goal
+
+-- Given, since the search for it takes 4 s where it fails.
+pub returns-clause-most : goal.returns-clause-most
+returns-clause-most g c = refl
 
 pub returns-clause-listed : goal.returns-clause-listed
 returns-clause-listed g c = joined_listing g.T.Joins.joining g.met.T.Joins.monoid

@@ -1,6 +1,6 @@
 -- The cost of the prefix before it, joined with that of its last pair.
 use Rattle.std.proofs.Common.{◌≡◌, ℕ, ◌+◌, ◌-◌, ◌*◌, ◌<◌, get_or, ap, ◌∙◌, arith}
-use Rattle.std.proofs.ByRecursion.{All-get_or}
+use Rattle.std.proofs.lemmas.List.Elements.{All-from_recursion}
 use Rattle.std.proofs.lemmas.List.{get_or_default}
 use Rattle.points.specs.Scenarios.{pairs}
 use Rattle.rules.specs.Costs.{pair_cost, spent_on}
@@ -21,7 +21,7 @@ returns g c =
     let last : ℕ = c.args.length - 1 in
     let inside : c.args.length - 1 < pairs c.args.self.now.tables.now.sheet.now.items = omega (arith, c.requires.within, c.if-length-eq0.false) in
     let code : get_or c.args.self.now.cursor.now (c.args.length - 1) 0 < c.args.self.now.tables.now.sheet.now.codes =
-    All-get_or (λ z. z < sheet.codes) a last 0 (omega (arith, c.args.self.now.long, inside)) c.args.self.now.low in
+    All-from_recursion (λ z. z < sheet.codes) a c.args.self.now.low last 0 (omega (arith, c.args.self.now.long, inside)) in
     let at : ℕ = (c.args.length - 1) * 64 + get_or c.args.self.now.cursor.now (c.args.length - 1) 0 in
     let up : (c.args.length - 1) + 1 ≡ c.args.length = omega (arith, c.if-length-eq0.false) in
     let spent : c.index-spent-last.result ≡ spent_on j rows a last =

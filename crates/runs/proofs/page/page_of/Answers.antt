@@ -1,0 +1,7 @@
+use Rattle.std.proofs.Common.{arith}
+use Rattle.std.proofs.lemmas.Grind.{common_steps}
+use Rattle.runs.proofs.page.page_of.Goals as goal
+
+-- Given, since the search for it takes 9 s where it fails.
+pub returns : goal.returns
+returns g c = grind (arith, common_steps) steps 400000
