@@ -1,33 +1,14 @@
 // Prints our tables of moments, spells and dwellings, holds them against published ones, and tries the laws of a relation algebra.
 #![tactic(auto)]
 
-mod algebra;
-mod comparison;
-mod laws;
-mod letters;
-mod literature;
-mod published;
-mod relations;
-mod score;
-mod transitivity;
-
 use dwellings::Dwellings;
-use laws::try_laws;
-use literature::{hold_all, published_tables};
+use literature::laws::try_laws;
+use literature::literature::{hold_all, published_tables};
+use literature::relations::print_kind;
+use literature::score::total;
+use literature::summary::print_summary;
 use moments::Moments;
-use relations::print_kind;
-use score::total;
 use spells::Spells;
-use std::io;
-
-/// The line on all tables and laws.
-fn print_summary(rt: HostRuntime, differ: u32) -> io::Result<()> {
-    if differ == 0 {
-        println!(rt; "all agree")
-    } else {
-        println!(rt; "{differ} differ")
-    }
-}
 
 // A kind is a type, so each has a call of its own.
 fn main(rt: HostRuntime) -> anyhow::Result<()> {
@@ -43,16 +24,4 @@ fn main(rt: HostRuntime) -> anyhow::Result<()> {
     print_summary(rt, differ)?;
     println!(rt; "figures {} proved", figures::count())?;
     Ok(())
-}
-
-#[cfg(test)]
-mod tests {
-    use super::*;
-    use std::test::Fail;
-
-    #[test]
-    fn prints_a_difference(rt: HostRuntime) -> Result<(), Fail> {
-        print_summary(rt, 1)?;
-        Ok(())
-    }
 }

@@ -1,0 +1,276 @@
+// Published tables, held against ours.
+ghost use Rattle.std.specs.Prelude.{find, position, option_copied, ◌≡◌, ℕ, ◌==◌, ◌↔◌, Bool, Decides, bit_or, length, IfOk, IsErr, IsOk, MatchOption};
+ghost use Rattle.std.specs.List.{All};
+ghost use Rattle.std.specs.Str.{bytes_eq};
+ghost use Rattle.kinds.specs.Composition.{Composition};
+ghost use Rattle.literature.specs.Letters.{meant_code};
+ghost use Rattle.literature.specs.Published.{Complete, Composes, ConverseAgrees, EntriesAgree, IdempotentAgrees, NeutralAgrees, TableAgrees, Uncomposed};
+ghost use Rattle.literature.specs.Relations.{Single, Whole};
+ghost use Rattle.literature.specs.Scores.{score_after};
+
+use crate::algebra::{single, whole};
+use crate::letters::Letters;
+use crate::published::{Entries, Turned};
+use crate::relations::print_set;
+use crate::score::Score;
+use anyhow::{Context, anyhow};
+use kinds::composition::compose;
+use kinds::kind::Kind;
+use kinds::notation::{Notation, WholeNotation};
+
+/// A published table of compositions. Its columns are in the order of its rows.
+#[derive(Clone, Copy)]
+pub struct Table<'a> {
+    pub letters: Letters<'a>,
+    pub rows: &'a [Entries],
+}
+
+impl<'a> Table<'a> {
+    /// The row of a letter, or none.
+    fn row(self, letter: &str) -> Option<&'a Entries>
+        ensures { option_copied result ≡ find (λ row. bytes_eq row.letter.now letter.now) self.entry.rows.now }
+    {
+        self.rows.iter().find(|row| row.letter == letter)
+    }
+
+    /// The place of the column of a letter, or none.
+    fn column(self, letter: &str) -> Option<usize>
+        ensures { result ≡ position (λ row. bytes_eq row.letter.now letter.now) self.entry.rows.now }
+    {
+        self.rows.iter().position(|row| row.letter == letter)
+    }
+
+    /// The published composition of two relations, or none where it cannot be read.
+    pub(crate) fn composition<K: Notation>(self, first: &str, second: &str) -> Option<u64>
+        ensures { MatchOption result (Uncomposed K.words self.entry first.now second.now) (λ set. Composes K.words self.entry first.now second.now set) }
+    {
+        let row = self.row(first)?;
+        let column = self.column(second)?;
+        self.letters.set::<K>(row.entries.get(column)?)
+    }
+}
+
+/// A published table as it is held against ours: the base relations that were met in it, and how many of its entries agree.
+#[derive(Clone, Copy, Default)]
+pub(crate) struct Comparison {
+    met: u64,
+    score: Score,
+}
+
+impl Comparison {
+    /// The code of the base relation that a letter stands for, which is met with it. An error where it stands for no single one.
+    pub(crate) fn meet<K: Notation>(&mut self, letters: Letters, letter: &str) -> anyhow::Result<u8>
+        ensures read { MatchOption (meant_code K.words letters.entry.0.now letter.now) (IsErr result) (λ code. result ≡ Ok code) }
+        ensures met { IfOk result (λ code. (one : ℕ) × Single code one × (self.new ≡ record self.old { met = bit_or self.old.met one })) }
+    {
+        let code = letters.read::<K>(letter)?;
+        self.met |= single(code);
+        Ok(code)
+    }
+
+    /// Counts in an entry of the table, and prints it where it is not ours.
+    fn hold<K: Notation>(
+        &mut self,
+        rt: HostRuntime,
+        relations: (u8, u8),
+        ours: u64,
+        published: Option<u64>,
+    ) -> anyhow::Result<()>
+        ensures unread { published ≡ None → IsErr result }
+        ensures counted { IfOk result (λ _. (set : ℕ) → published ≡ Some set → self.new ≡ record self.old { score = score_after self.old.score (ours == set) }) }
+    {
+        let published = published.context("a published entry cannot be read")?;
+        if ours != published {
+            let (first, second) = relations;
+            let letter = char::from(K::letter());
+            print!(rt;
+                "  differs: {letter} {} {}: ours",
+                K::word(first),
+                K::word(second)
+            )?;
+            print_set::<K>(rt, ours)?;
+            print!(rt; ", published")?;
+            print_set::<K>(rt, published)?;
+            println!(rt; "")?;
+        }
+        self.score.count(ours == published);
+        Ok(())
+    }
+
+    /// Counts in the published composition of two relations.
+    pub(crate) fn hold_composition<K: Kind + Notation>(
+        &mut self,
+        rt: HostRuntime,
+        relations: (u8, u8),
+        published: Option<u64>,
+    ) -> anyhow::Result<()>
+        ensures unread { published ≡ None → IsErr result }
+        ensures counted { IfOk result (λ _. (set : ℕ) → published ≡ Some set → (agrees : Bool) × Decides agrees (Composition K.Kind.meaning relations.0 relations.1 set) × (self.new ≡ record self.old { score = score_after self.old.score agrees })) }
+    {
+        let (r, s) = relations;
+        self.hold::<K>(rt, relations, compose::<K>(r, s), published)
+    }
+
+    /// Counts in the entries in the row of r of a table of compositions.
+    fn hold_row<K: Kind + Notation>(
+        &mut self,
+        rt: HostRuntime,
+        table: Table,
+        r: u8,
+        entries: &[&str],
+    ) -> anyhow::Result<()>
+        ensures full { IsOk result → length entries.now ≡ length table.entry.rows.now }
+        ensures counted { IfOk result (λ _. (self.new.score.lacking ≡ 0) ↔ ((self.old.score.lacking ≡ 0) × EntriesAgree K.Kind.meaning K.words table.entry r entries.now)) }
+        ensures kept { IfOk result (λ _. self.new.met ≡ self.old.met) }
+    {
+        if entries.len() != table.rows.len() {
+            return Err(anyhow!("a published row has not one entry for each column"));
+        }
+        for (column, entry) in table.rows.iter().zip(entries) {
+            let s = table.letters.read::<K>(column.letter)?;
+            self.hold_composition::<K>(rt, (r, s), table.letters.set::<K>(entry))?;
+        }
+        Ok(())
+    }
+
+    /// The line of the table; how many entries differ. An error where a relation was not met.
+    pub(crate) fn close<K: Kind + Notation>(
+        self,
+        rt: HostRuntime,
+        table: &str,
+    ) -> anyhow::Result<u32>
+        ensures { IfOk result (λ lacking. (lacking ≡ self.score.lacking) × Whole K.Kind.meaning self.met) }
+    {
+        if self.met != whole::<K>() {
+            return Err(anyhow!("a published table leaves out a relation"));
+        }
+        println!(rt;
+            "published {} {table}: {} of {} agree",
+            char::from(K::letter()),
+            self.score.stand,
+            self.score.tried()
+        )?;
+        Ok(self.score.lacking)
+    }
+}
+
+/// Holds published converses against ours.
+pub(crate) fn hold_converses<K: WholeNotation>(
+    rt: HostRuntime,
+    letters: Letters,
+    pairs: &[Turned],
+) -> anyhow::Result<u32>
+    ensures agree { IfOk result (λ differing. (differing ≡ 0) ↔ All (ConverseAgrees K.Kind.meaning K.words letters.entry.0.now) pairs.now) }
+    ensures complete { IfOk result (λ _. Complete K.Kind.meaning K.words letters.entry.0.now 0 (λ turned. turned.0.now) pairs.now) }
+{
+    let mut comparison = Comparison::default();
+    for Turned(relation, converse) in pairs {
+        let r = comparison.meet::<K>(letters, relation)?;
+        let ours = single(K::converse(r));
+        comparison.hold::<K>(rt, (r, r), ours, letters.set::<K>(converse))?;
+    }
+    comparison.close::<K>(rt, "converse")
+}
+
+/// Holds a published table of compositions against ours. It has a row for each relation but those of a given set.
+pub(crate) fn hold_compositions<K: WholeNotation>(
+    rt: HostRuntime,
+    table: Table,
+    left_out: u64,
+) -> anyhow::Result<u32>
+    ensures agree { IfOk result (λ differing. (differing ≡ 0) ↔ TableAgrees K.Kind.meaning K.words table.entry) }
+    ensures complete { IfOk result (λ _. Complete K.Kind.meaning K.words table.entry.letters.0.now left_out (λ row. row.letter.now) table.entry.rows.now) }
+{
+    let mut comparison = Comparison {
+        met: left_out,
+        ..Comparison::default()
+    };
+    for row in table.rows {
+        let r = comparison.meet::<K>(table.letters, row.letter)?;
+        comparison.hold_row::<K>(rt, table, r, row.entries)?;
+    }
+    comparison.close::<K>(rt, "composition")
+}
+
+/// Holds the row and the column of the identity, which Allen's table leaves out, against ours: composed with it, a relation is itself.
+pub(crate) fn hold_identity<K: WholeNotation>(
+    rt: HostRuntime,
+    table: Table,
+    identity: u8,
+    letter: &str,
+) -> anyhow::Result<u32>
+    ensures agree { IfOk result (λ differing. (differing ≡ 0) ↔ (IdempotentAgrees K.Kind.meaning K.words table.entry.letters.0.now identity letter.now × All (λ row. NeutralAgrees K.Kind.meaning K.words table.entry.letters.0.now identity row.letter.now) table.entry.rows.now)) }
+    ensures complete { IfOk result (λ _. (one : ℕ) × Single identity one × Complete K.Kind.meaning K.words table.entry.letters.0.now one (λ row. row.letter.now) table.entry.rows.now) }
+{
+    let mut comparison = Comparison {
+        met: single(identity),
+        ..Comparison::default()
+    };
+    let itself = table.letters.set::<K>(letter);
+    comparison.hold_composition::<K>(rt, (identity, identity), itself)?;
+    for row in table.rows {
+        let r = comparison.meet::<K>(table.letters, row.letter)?;
+        let itself = table.letters.set::<K>(row.letter);
+        comparison.hold_composition::<K>(rt, (identity, r), itself)?;
+        comparison.hold_composition::<K>(rt, (r, identity), itself)?;
+    }
+    comparison.close::<K>(rt, "identity")
+}
+
+#[cfg(test)]
+mod tests {
+    use super::*;
+    use crate::published::{POINT_COMPOSITIONS, POINT_LETTERS};
+    use moments::Moments;
+    use std::test::Fail;
+
+    // The table of the point algebra with one wrong entry: > for < composed with <.
+    static ONE_TURNED: [Entries; 3] = [
+        Entries {
+            letter: "<",
+            entries: &[">", "B", "<"],
+        },
+        Entries {
+            letter: ">",
+            entries: &["B", ">", ">"],
+        },
+        Entries {
+            letter: "=",
+            entries: &["<", ">", "="],
+        },
+    ];
+
+    // The table of the point algebra without the last entry of its first row.
+    static ONE_LOST: [Entries; 3] = [
+        Entries {
+            letter: "<",
+            entries: &["<", "B"],
+        },
+        Entries {
+            letter: ">",
+            entries: &["B", ">", ">"],
+        },
+        Entries {
+            letter: "=",
+            entries: &["<", ">", "="],
+        },
+    ];
+
+    fn differing(rt: HostRuntime, rows: &[Entries]) -> Option<u32> {
+        let letters = Letters(&POINT_LETTERS);
+        hold_compositions::<Moments>(rt, Table { letters, rows }, 0).ok()
+    }
+
+    #[test]
+    fn counts_differences(rt: HostRuntime) -> Result<(), Fail> {
+        assert_eq!(rt; differing(rt, &POINT_COMPOSITIONS), Some(0));
+        assert_eq!(rt; differing(rt, &ONE_TURNED), Some(1));
+        assert_eq!(rt; differing(rt, &ONE_LOST), None, "a row lost an entry");
+        assert_eq!(rt;
+            differing(rt, &POINT_COMPOSITIONS[1..]),
+            None,
+            "a row is lost"
+        );
+        Ok(())
+    }
+}

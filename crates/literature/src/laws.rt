@@ -1,0 +1,170 @@
+// The laws of a relation algebra, tried over the base relations of a kind, which are told by their codes.
+ghost use Rattle.std.specs.Prelude.{◌≡◌, ◌↔◌, Bool, Decides, IfOk, if◌then◌else◌, nat_lt};
+ghost use Rattle.std.specs.List.{All};
+ghost use Rattle.literature.specs.declared.laws.AlgebraLaw.{AlgebraLaw};
+ghost use Rattle.literature.specs.Laws.{HoldsOfAll, LawHolds, speaks_of};
+ghost use Rattle.literature.specs.Scores.{score_after};
+
+use crate::algebra::{compositions, converses, single};
+use crate::score::{Score, total};
+use kinds::composition::compose;
+use kinds::kind::Kind;
+use kinds::notation::Notation;
+use std::io;
+
+/// The laws of a relation algebra. The identity has one for each side of a composition on which it stands. A law is data: each has an
+/// extent and a test of its own, which a `match` tells.
+#[derive(Clone, Copy)]
+enum AlgebraLaw {
+    LeftIdentity,
+    RightIdentity,
+    ConverseOfConverse,
+    ConverseOfComposition,
+    Associativity,
+    Cycle,
+}
+
+impl AlgebraLaw {
+    /// How many second and third relations there are to an instance, of b relations.
+    fn extent(self, b: u8) -> (u8, u8)
+        ensures second { result.0 ≡ (if nat_lt 1 (speaks_of self) then b else 1) }
+        ensures third { result.1 ≡ (if nat_lt 2 (speaks_of self) then b else 1) }
+    {
+        match self {
+            AlgebraLaw::LeftIdentity | AlgebraLaw::RightIdentity | AlgebraLaw::ConverseOfConverse =>
+                (1, 1),
+            AlgebraLaw::ConverseOfComposition => (b, 1),
+            AlgebraLaw::Associativity | AlgebraLaw::Cycle => (b, b),
+        }
+    }
+
+    /// Whether the law holds of the relations r, s and t.
+    fn holds<K: Kind>(self, r: u8, s: u8, t: u8) -> bool
+        ensures { Decides result (LawHolds K.Kind.meaning self r s t) }
+    {
+        match self {
+            AlgebraLaw::LeftIdentity => compose::<K>(0, r) == single(r),
+            AlgebraLaw::RightIdentity => compose::<K>(r, 0) == single(r),
+            AlgebraLaw::ConverseOfConverse => K::converse(K::converse(r)) == r,
+            AlgebraLaw::ConverseOfComposition => {
+                converses::<K>(compose::<K>(r, s)) == compose::<K>(K::converse(s), K::converse(r))
+            }
+            AlgebraLaw::Associativity => {
+                compositions::<K>(compose::<K>(r, s), single(t))
+                    == compositions::<K>(single(r), compose::<K>(s, t))
+            }
+            AlgebraLaw::Cycle => {
+                let fits = K::fits(r, s, t);
+                fits == K::fits(K::converse(r), t, s) && fits == K::fits(t, K::converse(s), r)
+            }
+        }
+    }
+}
+
+/// Counts in an instance of a law, and prints it where it fails.
+fn try_instance<K: Kind + Notation>(
+    rt: HostRuntime,
+    score: &mut Score,
+    name: &str,
+    law: AlgebraLaw,
+    relations: (u8, u8, u8),
+) -> io::Result<()>
+    ensures { IfOk result (λ _. (holds : Bool) × Decides holds (LawHolds K.Kind.meaning law relations.0 relations.1 relations.2) × (score.new ≡ score_after score.old holds)) }
+{
+    let (r, s, t) = relations;
+    let holds = law.holds::<K>(r, s, t);
+    if !holds {
+        println!(rt;
+            "  fails: {name} at {} {} {}",
+            K::word(r),
+            K::word(s),
+            K::word(t)
+        )?;
+    }
+    score.count(holds);
+    Ok(())
+}
+
+/// Tries a law over all base relations of a kind, and counts in its instances.
+fn try_law<K: Kind + Notation>(
+    rt: HostRuntime,
+    score: &mut Score,
+    name: &str,
+    law: AlgebraLaw,
+) -> io::Result<()>
+    ensures { IfOk result (λ _. (score.new.lacking ≡ 0) ↔ ((score.old.lacking ≡ 0) × HoldsOfAll K.Kind.meaning law)) }
+{
+    let (second, third) = law.extent(K::count());
+    for r in 0..K::count() {
+        for s in 0..second {
+            for t in 0..third {
+                try_instance::<K>(rt, score, name, law, (r, s, t))?;
+            }
+        }
+    }
+    Ok(())
+}
+
+/// Tries the laws of a name over all base relations of a kind; how many instances fail.
+fn try_named<K: Kind + Notation>(
+    rt: HostRuntime,
+    name: &str,
+    laws: &[AlgebraLaw],
+) -> io::Result<u32>
+    ensures { IfOk result (λ failing. (failing ≡ 0) ↔ All (HoldsOfAll K.Kind.meaning) laws.now) }
+{
+    let mut score = Score::default();
+    for law in laws {
+        try_law::<K>(rt, &mut score, name, *law)?;
+    }
+    println!(rt;
+        "law {} {name}: {} of {} hold",
+        char::from(K::letter()),
+        score.stand,
+        score.tried()
+    )?;
+    Ok(score.lacking)
+}
+
+/// Tries all laws over the base relations of a kind; how many instances fail.
+pub fn try_laws<K: Kind + Notation>(rt: HostRuntime) -> io::Result<u32>
+    ensures { IfOk result (λ failing. (failing ≡ 0) ↔ ((law : AlgebraLaw) → HoldsOfAll K.Kind.meaning law)) }
+{
+    // The names stand here and in no `Display`, since the two laws of the identity are counted under one.
+    Ok(total(&[
+        try_named::<K>(
+            rt,
+            "identity",
+            &[AlgebraLaw::LeftIdentity, AlgebraLaw::RightIdentity],
+        )?,
+        try_named::<K>(
+            rt,
+            "converse of a converse",
+            &[AlgebraLaw::ConverseOfConverse],
+        )?,
+        try_named::<K>(
+            rt,
+            "converse of a composition",
+            &[AlgebraLaw::ConverseOfComposition],
+        )?,
+        try_named::<K>(rt, "associativity", &[AlgebraLaw::Associativity])?,
+        try_named::<K>(rt, "cycle", &[AlgebraLaw::Cycle])?,
+    ]))
+}
+
+#[cfg(test)]
+mod tests {
+    use super::*;
+    use moments::Moments;
+    use std::test::Fail;
+
+    // 3 is no code of a moment, so composed with the identity it gives no relation.
+    #[test]
+    fn counts_failures(rt: HostRuntime) -> Result<(), Fail> {
+        let mut score = Score::default();
+        let law = AlgebraLaw::LeftIdentity;
+        try_instance::<Moments>(rt, &mut score, "identity", law, (3, 0, 0))?;
+        assert_eq!(rt; (score.stand, score.lacking), (0, 1));
+        Ok(())
+    }
+}

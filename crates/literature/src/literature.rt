@@ -1,0 +1,125 @@
+// The published tables of the three kinds, all held against ours.
+ghost use Rattle.std.specs.Prelude.{◌≡◌, ◌↔◌, IfOk, MatchOption};
+ghost use Rattle.dwellings.specs.Dwellings.{dwellings, dwelling_words};
+ghost use Rattle.literature.specs.Literature.{LiteratureAgrees, LiteratureComplete};
+ghost use Rattle.literature.specs.Published.{ChartAgrees, Complete, ComposesByParts, UncomposedByParts};
+
+use crate::algebra::single;
+use crate::comparison::{Comparison, Table, hold_compositions, hold_converses, hold_identity};
+use crate::letters::Letters;
+use crate::published::{
+    DIRECTION_CONVERSES, DIRECTION_LETTERS, DIRECTIONS, Direction, INTERVAL_CONVERSES,
+    INTERVAL_LETTERS, POINT_COMPOSITIONS, POINT_CONVERSES, POINT_LETTERS, Turned,
+};
+use crate::score::total;
+use crate::transitivity::{ALLEN_COMPOSITIONS, ALLEN_IDENTITY, ALLEN_LETTERS};
+use dwellings::Dwellings;
+use moments::Moments;
+use points::set::contains;
+use spells::Spells;
+
+/// What is published of the cardinal directions: their letters, the directions by their parts, and the table by which parts compose.
+#[derive(Clone, Copy)]
+pub struct Chart<'a> {
+    pub letters: Letters<'a>,
+    pub directions: &'a [Direction],
+    pub points: Table<'a>,
+}
+
+/// The published composition of two directions: those whose two parts are each in the composition of the parts.
+fn composed_directions(chart: Chart, first: &Direction, second: &Direction) -> Option<u64>
+    ensures { MatchOption result (UncomposedByParts chart.entry first.now second.now) (λ set. ComposesByParts chart.entry first.now second.now set) }
+{
+    let points = chart.points;
+    let east = points.composition::<Moments>(first.eastward, second.eastward)?;
+    let north = points.composition::<Moments>(first.northward, second.northward)?;
+    let mut found = 0;
+    for direction in chart.directions {
+        let eastward = points.letters.code::<Moments>(direction.eastward)?;
+        let northward = points.letters.code::<Moments>(direction.northward)?;
+        if contains(east, eastward) && contains(north, northward) {
+            found |= chart.letters.set::<Dwellings>(direction.letter)?;
+        }
+    }
+    Some(found)
+}
+
+/// Holds the published compositions of the cardinal directions against ours.
+fn hold_directions(rt: HostRuntime, chart: Chart) -> anyhow::Result<u32>
+    ensures agree { IfOk result (λ differing. (differing ≡ 0) ↔ ChartAgrees chart.entry) }
+    ensures complete { IfOk result (λ _. Complete dwellings dwelling_words chart.entry.letters.0.now 0 (λ direction. direction.letter.now) chart.entry.directions.now) }
+{
+    let mut comparison = Comparison::default();
+    for first in chart.directions {
+        let r = comparison.meet::<Dwellings>(chart.letters, first.letter)?;
+        for second in chart.directions {
+            let s = chart.letters.read::<Dwellings>(second.letter)?;
+            let published = composed_directions(chart, first, second);
+            comparison.hold_composition::<Dwellings>(rt, (r, s), published)?;
+        }
+    }
+    comparison.close::<Dwellings>(rt, "composition")
+}
+
+/// What is published of the three kinds.
+#[derive(Clone, Copy)]
+pub struct Literature<'a> {
+    pub points: Table<'a>,
+    pub point_converses: &'a [Turned],
+    pub intervals: Table<'a>,
+    /// The letter of the identity of intervals, which their table leaves out.
+    pub identity: &'a str,
+    pub interval_letters: Letters<'a>,
+    pub interval_converses: &'a [Turned],
+    pub chart: Chart<'a>,
+    pub direction_converses: &'a [Turned],
+}
+
+/// The published tables that we have. They are statics with references in them, which no clause can name.
+pub fn published_tables() -> Literature<'static> {
+    let points = Table {
+        letters: Letters(&POINT_LETTERS),
+        rows: &POINT_COMPOSITIONS,
+    };
+    Literature {
+        points,
+        point_converses: &POINT_CONVERSES,
+        intervals: Table {
+            letters: Letters(&ALLEN_LETTERS),
+            rows: &ALLEN_COMPOSITIONS,
+        },
+        identity: ALLEN_IDENTITY,
+        interval_letters: Letters(&INTERVAL_LETTERS),
+        interval_converses: &INTERVAL_CONVERSES,
+        chart: Chart {
+            letters: Letters(&DIRECTION_LETTERS),
+            directions: &DIRECTIONS,
+            points,
+        },
+        direction_converses: &DIRECTION_CONVERSES,
+    }
+}
+
+/// Holds our tables against all published ones; how many entries differ.
+pub fn hold_all(rt: HostRuntime, literature: Literature) -> anyhow::Result<u32>
+    ensures agree { IfOk result (λ differing. (differing ≡ 0) ↔ LiteratureAgrees literature.entry) }
+    ensures complete { IfOk result (λ _. LiteratureComplete literature.entry) }
+{
+    let points = literature.points;
+    let intervals = literature.intervals;
+    let chart = literature.chart;
+    let identity = intervals.letters.read::<Spells>(literature.identity)?;
+    Ok(total(&[
+        hold_converses::<Moments>(rt, points.letters, literature.point_converses)?,
+        hold_compositions::<Moments>(rt, points, 0)?,
+        hold_converses::<Spells>(
+            rt,
+            literature.interval_letters,
+            literature.interval_converses,
+        )?,
+        hold_compositions::<Spells>(rt, intervals, single(identity))?,
+        hold_identity::<Spells>(rt, intervals, identity, literature.identity)?,
+        hold_converses::<Dwellings>(rt, chart.letters, literature.direction_converses)?,
+        hold_directions(rt, chart)?,
+    ]))
+}
