@@ -6,6 +6,8 @@ pub mod Composites
 pub mod Lacking
 pub mod Spoken
 pub mod Readings
+pub mod Printing
+pub mod Scored
 pub mod Rowed
 pub mod Completed
 pub mod Looked

@@ -1,6 +1,7 @@
 -- The definitions that the contracts cite.
 pub mod Relations
 pub mod Scores
+pub mod Printed
 pub mod Letters
 pub mod Laws
 pub mod Published

@@ -17,6 +17,7 @@ use anyhow::{Context, anyhow};
 use kinds::composition::compose;
 use kinds::kind::Kind;
 use kinds::notation::{Notation, WholeNotation};
+use std::io::Write;
 
 /// A published table of compositions. Its columns are in the order of its rows.
 #[derive(Clone, Copy)]
@@ -69,9 +70,9 @@ impl Comparison {
     }
 
     /// Counts in an entry of the table, and prints it where it is not ours.
-    fn hold<K: Notation>(
+    fn hold<K: Notation, W: Write>(
         &mut self,
-        rt: HostRuntime,
+        out: &mut W,
         relations: (u8, u8),
         ours: u64,
         published: Option<u64>,
@@ -82,25 +83,22 @@ impl Comparison {
         let published = published.context("a published entry cannot be read")?;
         if ours != published {
             let (first, second) = relations;
-            let letter = char::from(K::letter());
-            print!(rt;
-                "  differs: {letter} {} {}: ours",
-                K::word(first),
-                K::word(second)
-            )?;
-            print_set::<K>(rt, ours)?;
-            print!(rt; ", published")?;
-            print_set::<K>(rt, published)?;
-            println!(rt; "")?;
+            write!(out, "  differs: ")?;
+            out.write_all(&[K::letter()])?;
+            write!(out, " {} {}: ours", K::word(first), K::word(second))?;
+            print_set::<K, W>(out, ours)?;
+            write!(out, ", published")?;
+            print_set::<K, W>(out, published)?;
+            writeln!(out)?;
         }
         self.score.count(ours == published);
         Ok(())
     }
 
     /// Counts in the published composition of two relations.
-    pub(crate) fn hold_composition<K: Kind + Notation>(
+    pub(crate) fn hold_composition<K: Kind + Notation, W: Write>(
         &mut self,
-        rt: HostRuntime,
+        out: &mut W,
         relations: (u8, u8),
         published: Option<u64>,
     ) -> anyhow::Result<()>
@@ -108,13 +106,13 @@ impl Comparison {
         ensures counted { IfOk result (λ _. (set : ℕ) → published ≡ Some set → (agrees : Bool) × Decides agrees (Composition K.Kind.meaning relations.0 relations.1 set) × (self.new ≡ record self.old { score = score_after self.old.score agrees })) }
     {
         let (r, s) = relations;
-        self.hold::<K>(rt, relations, compose::<K>(r, s), published)
+        self.hold::<K, W>(out, relations, compose::<K>(r, s), published)
     }
 
     /// Counts in the entries in the row of r of a table of compositions.
-    fn hold_row<K: Kind + Notation>(
+    fn hold_row<K: Kind + Notation, W: Write>(
         &mut self,
-        rt: HostRuntime,
+        out: &mut W,
         table: Table,
         r: u8,
         entries: &[&str],
@@ -128,15 +126,15 @@ impl Comparison {
         }
         for (column, entry) in table.rows.iter().zip(entries) {
             let s = table.letters.read::<K>(column.letter)?;
-            self.hold_composition::<K>(rt, (r, s), table.letters.set::<K>(entry))?;
+            self.hold_composition::<K, W>(out, (r, s), table.letters.set::<K>(entry))?;
         }
         Ok(())
     }
 
     /// The line of the table; how many entries differ. An error where a relation was not met.
-    pub(crate) fn close<K: Kind + Notation>(
+    pub(crate) fn close<K: Kind + Notation, W: Write>(
         self,
-        rt: HostRuntime,
+        out: &mut W,
         table: &str,
     ) -> anyhow::Result<u32>
         ensures { IfOk result (λ lacking. (lacking ≡ self.score.lacking) × Whole K.Kind.meaning self.met) }
@@ -144,9 +142,11 @@ impl Comparison {
         if self.met != whole::<K>() {
             return Err(anyhow!("a published table leaves out a relation"));
         }
-        println!(rt;
-            "published {} {table}: {} of {} agree",
-            char::from(K::letter()),
+        write!(out, "published ")?;
+        out.write_all(&[K::letter()])?;
+        writeln!(
+            out,
+            " {table}: {} of {} agree",
             self.score.stand,
             self.score.tried()
         )?;
@@ -155,8 +155,8 @@ impl Comparison {
 }
 
 /// Holds published converses against ours.
-pub(crate) fn hold_converses<K: WholeNotation>(
-    rt: HostRuntime,
+pub(crate) fn hold_converses<K: WholeNotation, W: Write>(
+    out: &mut W,
     letters: Letters,
     pairs: &[Turned],
 ) -> anyhow::Result<u32>
@@ -167,14 +167,14 @@ pub(crate) fn hold_converses<K: WholeNotation>(
     for Turned(relation, converse) in pairs {
         let r = comparison.meet::<K>(letters, relation)?;
         let ours = single(K::converse(r));
-        comparison.hold::<K>(rt, (r, r), ours, letters.set::<K>(converse))?;
+        comparison.hold::<K, W>(out, (r, r), ours, letters.set::<K>(converse))?;
     }
-    comparison.close::<K>(rt, "converse")
+    comparison.close::<K, W>(out, "converse")
 }
 
 /// Holds a published table of compositions against ours. It has a row for each relation but those of a given set.
-pub(crate) fn hold_compositions<K: WholeNotation>(
-    rt: HostRuntime,
+pub(crate) fn hold_compositions<K: WholeNotation, W: Write>(
+    out: &mut W,
     table: Table,
     left_out: u64,
 ) -> anyhow::Result<u32>
@@ -187,14 +187,14 @@ pub(crate) fn hold_compositions<K: WholeNotation>(
     };
     for row in table.rows {
         let r = comparison.meet::<K>(table.letters, row.letter)?;
-        comparison.hold_row::<K>(rt, table, r, row.entries)?;
+        comparison.hold_row::<K, W>(out, table, r, row.entries)?;
     }
-    comparison.close::<K>(rt, "composition")
+    comparison.close::<K, W>(out, "composition")
 }
 
 /// Holds the row and the column of the identity, which Allen's table leaves out, against ours: composed with it, a relation is itself.
-pub(crate) fn hold_identity<K: WholeNotation>(
-    rt: HostRuntime,
+pub(crate) fn hold_identity<K: WholeNotation, W: Write>(
+    out: &mut W,
     table: Table,
     identity: u8,
     letter: &str,
@@ -207,14 +207,14 @@ pub(crate) fn hold_identity<K: WholeNotation>(
         ..Comparison::default()
     };
     let itself = table.letters.set::<K>(letter);
-    comparison.hold_composition::<K>(rt, (identity, identity), itself)?;
+    comparison.hold_composition::<K, W>(out, (identity, identity), itself)?;
     for row in table.rows {
         let r = comparison.meet::<K>(table.letters, row.letter)?;
         let itself = table.letters.set::<K>(row.letter);
-        comparison.hold_composition::<K>(rt, (identity, r), itself)?;
-        comparison.hold_composition::<K>(rt, (r, identity), itself)?;
+        comparison.hold_composition::<K, W>(out, (identity, r), itself)?;
+        comparison.hold_composition::<K, W>(out, (r, identity), itself)?;
     }
-    comparison.close::<K>(rt, "identity")
+    comparison.close::<K, W>(out, "identity")
 }
 
 #[cfg(test)]
@@ -258,7 +258,8 @@ mod tests {
 
     fn differing(rt: HostRuntime, rows: &[Entries]) -> Option<u32> {
         let letters = Letters(&POINT_LETTERS);
-        hold_compositions::<Moments>(rt, Table { letters, rows }, 0).ok()
+        let mut out = Vec::new(rt.alloc());
+        hold_compositions::<Moments, Vec<u8>>(&mut out, Table { letters, rows }, 0).ok()
     }
 
     #[test]

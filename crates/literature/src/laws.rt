@@ -11,6 +11,7 @@ use kinds::composition::compose;
 use kinds::kind::Kind;
 use kinds::notation::Notation;
 use std::io;
+use std::io::Write;
 
 /// The laws of a relation algebra. The identity has one for each side of a composition on which it stands. A law is data: each has an
 /// extent and a test of its own, which a `match` tells.
@@ -62,8 +63,8 @@ impl AlgebraLaw {
 }
 
 /// Counts in an instance of a law, and prints it where it fails.
-fn try_instance<K: Kind + Notation>(
-    rt: HostRuntime,
+fn try_instance<K: Kind + Notation, W: Write>(
+    out: &mut W,
     score: &mut Score,
     name: &str,
     law: AlgebraLaw,
@@ -74,7 +75,8 @@ fn try_instance<K: Kind + Notation>(
     let (r, s, t) = relations;
     let holds = law.holds::<K>(r, s, t);
     if !holds {
-        println!(rt;
+        writeln!(
+            out,
             "  fails: {name} at {} {} {}",
             K::word(r),
             K::word(s),
@@ -86,8 +88,8 @@ fn try_instance<K: Kind + Notation>(
 }
 
 /// Tries a law over all base relations of a kind, and counts in its instances.
-fn try_law<K: Kind + Notation>(
-    rt: HostRuntime,
+fn try_law<K: Kind + Notation, W: Write>(
+    out: &mut W,
     score: &mut Score,
     name: &str,
     law: AlgebraLaw,
@@ -98,7 +100,7 @@ fn try_law<K: Kind + Notation>(
     for r in 0..K::count() {
         for s in 0..second {
             for t in 0..third {
-                try_instance::<K>(rt, score, name, law, (r, s, t))?;
+                try_instance::<K, W>(out, score, name, law, (r, s, t))?;
             }
         }
     }
@@ -106,8 +108,8 @@ fn try_law<K: Kind + Notation>(
 }
 
 /// Tries the laws of a name over all base relations of a kind; how many instances fail.
-fn try_named<K: Kind + Notation>(
-    rt: HostRuntime,
+fn try_named<K: Kind + Notation, W: Write>(
+    out: &mut W,
     name: &str,
     laws: &[AlgebraLaw],
 ) -> io::Result<u32>
@@ -115,40 +117,37 @@ fn try_named<K: Kind + Notation>(
 {
     let mut score = Score::default();
     for law in laws {
-        try_law::<K>(rt, &mut score, name, *law)?;
+        try_law::<K, W>(out, &mut score, name, *law)?;
     }
-    println!(rt;
-        "law {} {name}: {} of {} hold",
-        char::from(K::letter()),
-        score.stand,
-        score.tried()
-    )?;
+    write!(out, "law ")?;
+    out.write_all(&[K::letter()])?;
+    writeln!(out, " {name}: {} of {} hold", score.stand, score.tried())?;
     Ok(score.lacking)
 }
 
 /// Tries all laws over the base relations of a kind; how many instances fail.
-pub fn try_laws<K: Kind + Notation>(rt: HostRuntime) -> io::Result<u32>
+pub fn try_laws<K: Kind + Notation, W: Write>(out: &mut W) -> io::Result<u32>
     ensures { IfOk result (λ failing. (failing ≡ 0) ↔ ((law : AlgebraLaw) → HoldsOfAll K.Kind.meaning law)) }
 {
     // The names stand here and in no `Display`, since the two laws of the identity are counted under one.
     Ok(total(&[
-        try_named::<K>(
-            rt,
+        try_named::<K, W>(
+            out,
             "identity",
             &[AlgebraLaw::LeftIdentity, AlgebraLaw::RightIdentity],
         )?,
-        try_named::<K>(
-            rt,
+        try_named::<K, W>(
+            out,
             "converse of a converse",
             &[AlgebraLaw::ConverseOfConverse],
         )?,
-        try_named::<K>(
-            rt,
+        try_named::<K, W>(
+            out,
             "converse of a composition",
             &[AlgebraLaw::ConverseOfComposition],
         )?,
-        try_named::<K>(rt, "associativity", &[AlgebraLaw::Associativity])?,
-        try_named::<K>(rt, "cycle", &[AlgebraLaw::Cycle])?,
+        try_named::<K, W>(out, "associativity", &[AlgebraLaw::Associativity])?,
+        try_named::<K, W>(out, "cycle", &[AlgebraLaw::Cycle])?,
     ]))
 }
 
@@ -163,7 +162,8 @@ mod tests {
     fn counts_failures(rt: HostRuntime) -> Result<(), Fail> {
         let mut score = Score::default();
         let law = AlgebraLaw::LeftIdentity;
-        try_instance::<Moments>(rt, &mut score, "identity", law, (3, 0, 0))?;
+        let mut out = Vec::new(rt.alloc());
+        try_instance::<Moments, Vec<u8>>(&mut out, &mut score, "identity", law, (3, 0, 0))?;
         assert_eq!(rt; (score.stand, score.lacking), (0, 1));
         Ok(())
     }

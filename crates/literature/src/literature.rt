@@ -17,6 +17,7 @@ use dwellings::Dwellings;
 use moments::Moments;
 use points::set::contains;
 use spells::Spells;
+use std::io::Write;
 
 /// What is published of the cardinal directions: their letters, the directions by their parts, and the table by which parts compose.
 #[derive(Clone, Copy)]
@@ -45,7 +46,7 @@ fn composed_directions(chart: Chart, first: &Direction, second: &Direction) -> O
 }
 
 /// Holds the published compositions of the cardinal directions against ours.
-fn hold_directions(rt: HostRuntime, chart: Chart) -> anyhow::Result<u32>
+fn hold_directions<W: Write>(out: &mut W, chart: Chart) -> anyhow::Result<u32>
     ensures agree { IfOk result (λ differing. (differing ≡ 0) ↔ ChartAgrees chart.entry) }
     ensures complete { IfOk result (λ _. Complete dwellings dwelling_words chart.entry.letters.0.now 0 (λ direction. direction.letter.now) chart.entry.directions.now) }
 {
@@ -55,10 +56,10 @@ fn hold_directions(rt: HostRuntime, chart: Chart) -> anyhow::Result<u32>
         for second in chart.directions {
             let s = chart.letters.read::<Dwellings>(second.letter)?;
             let published = composed_directions(chart, first, second);
-            comparison.hold_composition::<Dwellings>(rt, (r, s), published)?;
+            comparison.hold_composition::<Dwellings, W>(out, (r, s), published)?;
         }
     }
-    comparison.close::<Dwellings>(rt, "composition")
+    comparison.close::<Dwellings, W>(out, "composition")
 }
 
 /// What is published of the three kinds.
@@ -101,7 +102,7 @@ pub fn published_tables() -> Literature<'static> {
 }
 
 /// Holds our tables against all published ones; how many entries differ.
-pub fn hold_all(rt: HostRuntime, literature: Literature) -> anyhow::Result<u32>
+pub fn hold_all<W: Write>(out: &mut W, literature: Literature) -> anyhow::Result<u32>
     ensures agree { IfOk result (λ differing. (differing ≡ 0) ↔ LiteratureAgrees literature.entry) }
     ensures complete { IfOk result (λ _. LiteratureComplete literature.entry) }
 {
@@ -110,16 +111,16 @@ pub fn hold_all(rt: HostRuntime, literature: Literature) -> anyhow::Result<u32>
     let chart = literature.chart;
     let identity = intervals.letters.read::<Spells>(literature.identity)?;
     Ok(total(&[
-        hold_converses::<Moments>(rt, points.letters, literature.point_converses)?,
-        hold_compositions::<Moments>(rt, points, 0)?,
-        hold_converses::<Spells>(
-            rt,
+        hold_converses::<Moments, W>(out, points.letters, literature.point_converses)?,
+        hold_compositions::<Moments, W>(out, points, 0)?,
+        hold_converses::<Spells, W>(
+            out,
             literature.interval_letters,
             literature.interval_converses,
         )?,
-        hold_compositions::<Spells>(rt, intervals, single(identity))?,
-        hold_identity::<Spells>(rt, intervals, identity, literature.identity)?,
-        hold_converses::<Dwellings>(rt, chart.letters, literature.direction_converses)?,
-        hold_directions(rt, chart)?,
+        hold_compositions::<Spells, W>(out, intervals, single(identity))?,
+        hold_identity::<Spells, W>(out, intervals, identity, literature.identity)?,
+        hold_converses::<Dwellings, W>(out, chart.letters, literature.direction_converses)?,
+        hold_directions(out, chart)?,
     ]))
 }

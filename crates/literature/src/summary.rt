@@ -1,12 +1,19 @@
 // The line on all tables and laws.
+ghost use Rattle.std.specs.Prelude.{OnOk};
+ghost use Rattle.std.specs.Io.KnownBytes.{Appends};
+ghost use Rattle.literature.specs.Printed.{summary_line};
+
 use std::io;
+use std::io::Write;
 
 /// Prints the line on all tables and laws.
-pub fn print_summary(rt: HostRuntime, differ: u32) -> io::Result<()> {
+pub fn print_summary<W: Write>(out: &mut W, differ: u32) -> io::Result<()>
+    ensures { OnOk result (Appends (W.contents out.old) (W.contents out.new) (summary_line differ)) }
+{
     if differ == 0 {
-        println!(rt; "all agree")
+        writeln!(out, "all agree")
     } else {
-        println!(rt; "{differ} differ")
+        writeln!(out, "{differ} differ")
     }
 }
 
@@ -17,7 +24,9 @@ mod tests {
 
     #[test]
     fn prints_a_difference(rt: HostRuntime) -> Result<(), Fail> {
-        print_summary(rt, 1)?;
+        let mut out = Vec::new(rt.alloc());
+        print_summary(&mut out, 1)?;
+        assert_eq!(rt; out.as_slice(), b"1 differ\n");
         Ok(())
     }
 }
