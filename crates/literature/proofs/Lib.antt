@@ -8,6 +8,7 @@ pub mod Spoken
 pub mod Readings
 pub mod Printing
 pub mod Scored
+pub mod Compared
 pub mod Rowed
 pub mod Completed
 pub mod Looked

@@ -1,5 +1,5 @@
 -- Texts that are written one after another.
-use Rattle.std.proofs.Common.{◌≡◌, ℕ, zero, suc, ◌+◌, ◌<◌, List, [], ◌∷◌, ◌++◌, Option, None, Some, sym, refl, ap, subst, ◌∙◌, append_assoc, append-nil, arith}
+use Rattle.std.proofs.Common.{◌≡◌, ℕ, zero, suc, ◌+◌, ◌<◌, List, [], ◌∷◌, ◌++◌, Option, None, Some, Result, Ok, Err, IfOk, sym, refl, ap, subst, ◌∙◌, append_assoc, append-nil, arith}
 use Rattle.std.specs.Io.KnownBytes.{Appends}
 use Rattle.literature.specs.Printed.{below}
 
@@ -37,3 +37,11 @@ appends_next f a b c n x p q same =
 -- Parts put together from the right are those put together from the left.
 pub two_parts : (a t b u : List ℕ) → a ++ (t ++ (b ++ u)) ≡ a ++ t ++ b ++ u
 two_parts a t b u = simp append_assoc refl
+
+pub four_parts : (a p s o t e : List ℕ) → a ++ (p ++ (s ++ (o ++ (t ++ e)))) ≡ a ++ p ++ (s ++ o ++ t) ++ e
+four_parts a p s o t e = simp append_assoc refl
+
+-- what follows of two facts on what a call answers
+pub if_ok_both : {X E : Type 0} (r : Result X E) (P Q R : X → Type 0) → ((x : X) → P x → Q x → R x) → IfOk r P → IfOk r Q → IfOk r R
+if_ok_both (Ok x) P Q R f p q = f x p q
+if_ok_both (Err e) P Q R f p q = tt

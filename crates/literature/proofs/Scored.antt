@@ -1,7 +1,8 @@
 -- The score of tests that are counted in one by one.
-use Rattle.std.proofs.Common.{◌≡◌, ℕ, ◌+◌, ◌-◌, ◌^◌, min, Bool, true, false, List, [], ◌∷◌, ◌++◌, length, refl, ap, sym, ◌∙◌, append_assoc, arith}
+use Rattle.std.proofs.Common.{◌≡◌, ℕ, ◌+◌, ◌-◌, ◌^◌, min, Bool, true, false, List, [], ◌∷◌, ◌++◌, length, refl, ap, sym, ◌∙◌, append_assoc, codes, arith}
 use Rattle.literature.specs.Scores.{capped, failed, passed, score_after, score_of}
-use Rattle.literature.specs.Printed.{below}
+use Rattle.std.specs.Fmt.{decimal}
+use Rattle.literature.specs.Printed.{below, score_text}
 use Rattle.literature.specs.declared.score.Score.{Score}
 use Rattle.literature.proofs.Printing.{below_next}
 
@@ -48,3 +49,10 @@ score_below xs f n ys s is same =
 -- one test more
 pub score_more : (xs : List Bool) (b : Bool) (old new : Score) → old ≡ score_of xs → new ≡ score_after old b → new ≡ score_of (xs ++ (b ∷ []))
 score_more xs b old new was is = is ∙ ap (λ s. score_after s b) was ∙ score_next xs b
+
+-- the two numbers of a score, printed
+pub score_shown : (s : Score) (tests : List Bool) (tried : ℕ) → s ≡ score_of tests → tried ≡ min (s.stand + s.lacking) (2 ^ 32 - 1) → decimal s.stand ++ codes " of " ++ decimal tried ≡ score_text tests
+score_shown s tests tried is all =
+    let stand = ap (λ (s : Score). s.stand) is in
+    let number = all ∙ ap (λ (s : Score). min (s.stand + s.lacking) (2 ^ 32 - 1)) is ∙ tried_all tests in
+    λ i. decimal (stand i) ++ codes " of " ++ decimal (number i)

@@ -5,4 +5,5 @@ pub mod Printed
 pub mod Letters
 pub mod Laws
 pub mod Published
+pub mod Held
 pub mod Literature

@@ -1,12 +1,14 @@
 // Published tables, held against ours.
-ghost use Rattle.std.specs.Prelude.{find, position, option_copied, ◌≡◌, ℕ, ◌==◌, ◌↔◌, Bool, Decides, bit_or, length, IfOk, IsErr, IsOk, MatchOption};
-ghost use Rattle.std.specs.List.{All};
+ghost use Rattle.std.specs.Prelude.{find, position, option_copied, ◌≡◌, ℕ, ◌==◌, ◌↔◌, Bool, Decides, bit_or, codes, length, List, ◌∷◌, IfOk, IsErr, IsOk, OnOk, MatchOption};
+ghost use Rattle.std.specs.List.{All, flat_map};
+ghost use Rattle.std.specs.Io.KnownBytes.{Appends};
 ghost use Rattle.std.specs.Str.{bytes_eq};
 ghost use Rattle.kinds.specs.Composition.{Composition};
+ghost use Rattle.literature.specs.Held.{ConversesHeld, CountedIn, Entry, IdentityHeld, RowHeld, TableHeld, agreeing, differing, differs_line, entry_lines, joined, table_line, table_lines};
 ghost use Rattle.literature.specs.Letters.{meant_code};
 ghost use Rattle.literature.specs.Published.{Complete, Composes, ConverseAgrees, EntriesAgree, IdempotentAgrees, NeutralAgrees, TableAgrees, Uncomposed};
 ghost use Rattle.literature.specs.Relations.{Single, Whole};
-ghost use Rattle.literature.specs.Scores.{score_after};
+ghost use Rattle.literature.specs.Scores.{score_after, score_of};
 
 use crate::algebra::{single, whole};
 use crate::letters::Letters;
@@ -17,6 +19,7 @@ use anyhow::{Context, anyhow};
 use kinds::composition::compose;
 use kinds::kind::Kind;
 use kinds::notation::{Notation, WholeNotation};
+use std::io;
 use std::io::Write;
 
 /// A published table of compositions. Its columns are in the order of its rows.
@@ -58,6 +61,25 @@ pub(crate) struct Comparison {
     score: Score,
 }
 
+/// Prints the line of an entry that differs.
+fn print_difference<K: Notation, W: Write>(
+    out: &mut W,
+    relations: (u8, u8),
+    ours: u64,
+    published: u64,
+) -> io::Result<()>
+    ensures { OnOk result (Appends (W.contents out.old) (W.contents out.new) (differs_line K.words K.initial (record { first = relations.0; second = relations.1; ours = ours; published = published }))) }
+{
+    let (first, second) = relations;
+    write!(out, "  differs: ")?;
+    out.write_all(&[K::letter()])?;
+    write!(out, " {} {}: ours", K::word(first), K::word(second))?;
+    print_set::<K, W>(out, ours)?;
+    write!(out, ", published")?;
+    print_set::<K, W>(out, published)?;
+    writeln!(out)
+}
+
 impl Comparison {
     /// The code of the base relation that a letter stands for, which is met with it. An error where it stands for no single one.
     pub(crate) fn meet<K: Notation>(&mut self, letters: Letters, letter: &str) -> anyhow::Result<u8>
@@ -79,17 +101,11 @@ impl Comparison {
     ) -> anyhow::Result<()>
         ensures unread { published ≡ None → IsErr result }
         ensures counted { IfOk result (λ _. (set : ℕ) → published ≡ Some set → self.new ≡ record self.old { score = score_after self.old.score (ours == set) }) }
+        ensures printed { IfOk result (λ _. (set : ℕ) → published ≡ Some set → Appends (W.contents out.old) (W.contents out.new) (entry_lines K.words K.initial (record { first = relations.0; second = relations.1; ours = ours; published = set }))) }
     {
         let published = published.context("a published entry cannot be read")?;
         if ours != published {
-            let (first, second) = relations;
-            write!(out, "  differs: ")?;
-            out.write_all(&[K::letter()])?;
-            write!(out, " {} {}: ours", K::word(first), K::word(second))?;
-            print_set::<K, W>(out, ours)?;
-            write!(out, ", published")?;
-            print_set::<K, W>(out, published)?;
-            writeln!(out)?;
+            print_difference::<K, W>(out, relations, ours, published)?;
         }
         self.score.count(ours == published);
         Ok(())
@@ -104,6 +120,7 @@ impl Comparison {
     ) -> anyhow::Result<()>
         ensures unread { published ≡ None → IsErr result }
         ensures counted { IfOk result (λ _. (set : ℕ) → published ≡ Some set → (agrees : Bool) × Decides agrees (Composition K.Kind.meaning relations.0 relations.1 set) × (self.new ≡ record self.old { score = score_after self.old.score agrees })) }
+        ensures printed { IfOk result (λ _. (set : ℕ) → published ≡ Some set → (ours : ℕ) × Composition K.Kind.meaning relations.0 relations.1 ours × (self.new ≡ record self.old { score = score_after self.old.score (ours == set) }) × Appends (W.contents out.old) (W.contents out.new) (entry_lines K.Notation.words K.Notation.initial (record { first = relations.0; second = relations.1; ours = ours; published = set }))) }
     {
         let (r, s) = relations;
         self.hold::<K, W>(out, relations, compose::<K>(r, s), published)
@@ -120,6 +137,7 @@ impl Comparison {
         ensures full { IsOk result → length entries.now ≡ length table.entry.rows.now }
         ensures counted { IfOk result (λ _. (self.new.score.lacking ≡ 0) ↔ ((self.old.score.lacking ≡ 0) × EntriesAgree K.Kind.meaning K.words table.entry r entries.now)) }
         ensures kept { IfOk result (λ _. self.new.met ≡ self.old.met) }
+        ensures printed { OnOk result ((held : List Entry) × RowHeld K.Kind.meaning K.Notation.words table.entry r entries.now held × CountedIn self.old.score (agreeing held) self.new.score × Appends (W.contents out.old) (W.contents out.new) (flat_map (entry_lines K.Notation.words K.Notation.initial) held)) }
     {
         if entries.len() != table.rows.len() {
             return Err(anyhow!("a published row has not one entry for each column"));
@@ -137,7 +155,8 @@ impl Comparison {
         out: &mut W,
         table: &str,
     ) -> anyhow::Result<u32>
-        ensures { IfOk result (λ lacking. (lacking ≡ self.score.lacking) × Whole K.Kind.meaning self.met) }
+        ensures closed { IfOk result (λ lacking. (lacking ≡ self.score.lacking) × Whole K.Kind.meaning self.met) }
+        ensures printed { OnOk result ((tests : List Bool) → self.score ≡ score_of tests → Appends (W.contents out.old) (W.contents out.new) (table_line K.Notation.initial table.now tests)) }
     {
         if self.met != whole::<K>() {
             return Err(anyhow!("a published table leaves out a relation"));
@@ -162,6 +181,7 @@ pub(crate) fn hold_converses<K: WholeNotation, W: Write>(
 ) -> anyhow::Result<u32>
     ensures agree { IfOk result (λ differing. (differing ≡ 0) ↔ All (ConverseAgrees K.Kind.meaning K.words letters.entry.0.now) pairs.now) }
     ensures complete { IfOk result (λ _. Complete K.Kind.meaning K.words letters.entry.0.now 0 (λ turned. turned.0.now) pairs.now) }
+    ensures printed { IfOk result (λ differ. (held : List Entry) × ConversesHeld K.Kind.meaning K.words letters.entry.0.now pairs.now held × (differ ≡ differing held) × Appends (W.contents out.old) (W.contents out.new) (table_lines K.words K.initial (codes "converse") held)) }
 {
     let mut comparison = Comparison::default();
     for Turned(relation, converse) in pairs {
@@ -180,6 +200,7 @@ pub(crate) fn hold_compositions<K: WholeNotation, W: Write>(
 ) -> anyhow::Result<u32>
     ensures agree { IfOk result (λ differing. (differing ≡ 0) ↔ TableAgrees K.Kind.meaning K.words table.entry) }
     ensures complete { IfOk result (λ _. Complete K.Kind.meaning K.words table.entry.letters.0.now left_out (λ row. row.letter.now) table.entry.rows.now) }
+    ensures printed { IfOk result (λ differ. (held : List (List Entry)) × TableHeld K.Kind.meaning K.words table.entry held × (differ ≡ differing (joined held)) × Appends (W.contents out.old) (W.contents out.new) (table_lines K.words K.initial (codes "composition") (joined held))) }
 {
     let mut comparison = Comparison {
         met: left_out,
@@ -201,6 +222,7 @@ pub(crate) fn hold_identity<K: WholeNotation, W: Write>(
 ) -> anyhow::Result<u32>
     ensures agree { IfOk result (λ differing. (differing ≡ 0) ↔ (IdempotentAgrees K.Kind.meaning K.words table.entry.letters.0.now identity letter.now × All (λ row. NeutralAgrees K.Kind.meaning K.words table.entry.letters.0.now identity row.letter.now) table.entry.rows.now)) }
     ensures complete { IfOk result (λ _. (one : ℕ) × Single identity one × Complete K.Kind.meaning K.words table.entry.letters.0.now one (λ row. row.letter.now) table.entry.rows.now) }
+    ensures printed { IfOk result (λ differ. (itself : Entry) × (held : List (List Entry)) × IdentityHeld K.Kind.meaning K.words table.entry identity letter.now itself held × (differ ≡ differing (itself ∷ joined held)) × Appends (W.contents out.old) (W.contents out.new) (table_lines K.words K.initial (codes "identity") (itself ∷ joined held))) }
 {
     let mut comparison = Comparison {
         met: single(identity),

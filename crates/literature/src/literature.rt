@@ -1,7 +1,9 @@
 // The published tables of the three kinds, all held against ours.
-ghost use Rattle.std.specs.Prelude.{◌≡◌, ◌↔◌, IfOk, MatchOption};
+ghost use Rattle.std.specs.Prelude.{◌≡◌, ◌↔◌, codes, List, IfOk, MatchOption};
+ghost use Rattle.std.specs.Io.KnownBytes.{Appends};
 ghost use Rattle.dwellings.specs.Dwellings.{dwellings, dwelling_words};
-ghost use Rattle.literature.specs.Literature.{LiteratureAgrees, LiteratureComplete};
+ghost use Rattle.literature.specs.Held.{ChartHeld, Entry, differing, joined, table_lines};
+ghost use Rattle.literature.specs.Literature.{HeldTables, LiteratureAgrees, LiteratureComplete, LiteratureHeld, literature_differs, literature_lines};
 ghost use Rattle.literature.specs.Published.{ChartAgrees, Complete, ComposesByParts, UncomposedByParts};
 
 use crate::algebra::single;
@@ -49,6 +51,7 @@ fn composed_directions(chart: Chart, first: &Direction, second: &Direction) -> O
 fn hold_directions<W: Write>(out: &mut W, chart: Chart) -> anyhow::Result<u32>
     ensures agree { IfOk result (λ differing. (differing ≡ 0) ↔ ChartAgrees chart.entry) }
     ensures complete { IfOk result (λ _. Complete dwellings dwelling_words chart.entry.letters.0.now 0 (λ direction. direction.letter.now) chart.entry.directions.now) }
+    ensures printed { IfOk result (λ differ. (held : List (List Entry)) × ChartHeld chart.entry held × (differ ≡ differing (joined held)) × Appends (W.contents out.old) (W.contents out.new) (table_lines dwelling_words 68 (codes "composition") (joined held))) }
 {
     let mut comparison = Comparison::default();
     for first in chart.directions {
@@ -105,6 +108,7 @@ pub fn published_tables() -> Literature<'static> {
 pub fn hold_all<W: Write>(out: &mut W, literature: Literature) -> anyhow::Result<u32>
     ensures agree { IfOk result (λ differing. (differing ≡ 0) ↔ LiteratureAgrees literature.entry) }
     ensures complete { IfOk result (λ _. LiteratureComplete literature.entry) }
+    ensures printed { IfOk result (λ differ. (held : HeldTables) × LiteratureHeld literature.entry held × (differ ≡ literature_differs held) × Appends (W.contents out.old) (W.contents out.new) (literature_lines held)) }
 {
     let points = literature.points;
     let intervals = literature.intervals;

@@ -1,15 +1,17 @@
 -- The sum is 0 exactly if each table's count is.
-use Rattle.std.proofs.Common.{◌≡◌, ℕ, Ok, subst, sym, ◌∙◌, refl, arith}
+use Rattle.std.proofs.Common.{◌≡◌, ℕ, ◌∷◌, Ok, subst, sym, ◌∙◌, refl, arith}
 use Rattle.std.proofs.lemmas.Option.{same_Some}
 use Rattle.std.specs.List.{All}
 use Rattle.spells.specs.Spells.{spells, spell_words}
-use Rattle.literature.specs.Literature.{Identity}
+use Rattle.literature.specs.Literature.{HeldTables, Identity, LiteratureHeld}
+use Rattle.literature.specs.Held.{joined}
 use Rattle.literature.specs.Published.{IdempotentAgrees, NeutralAgrees}
+use Rattle.literature.proofs.Printing.{appends_more}
 use Rattle.literature.proofs.Rowed.{code_read}
 use Rattle.literature.proofs.literature.hold_all.Goals as goal
 
 pub returns-clause-agree : goal.returns-clause-agree
-returns-clause-agree c =
+returns-clause-agree g c =
     let l = c.args.literature in
     let letters = l.intervals.letters.0.now in
     let i = c.in_ok-identity.identity in
@@ -40,7 +42,7 @@ returns-clause-agree c =
     )
 
 pub returns-clause-complete : goal.returns-clause-complete
-returns-clause-complete c =
+returns-clause-complete g c =
     let l = c.args.literature in
     let i = c.in_ok-identity.identity in
     let read : Identity l i = code_read _ i (Ok i) c.in_ok-identity.ensures refl in
@@ -52,3 +54,41 @@ returns-clause-complete c =
       direction_converses = c.in_ok-hold_converses-3.ensures.complete;
       directions = c.in_ok-hold_directions.ensures.complete;
     }
+
+pub returns-clause-printed : goal.returns-clause-printed
+returns-clause-printed g c =
+    let l = c.args.literature in
+    let i = c.in_ok-identity.identity in
+    let read : Identity l i = code_read _ i (Ok i) c.in_ok-identity.ensures refl in
+    let (point_converses, of_point_converses, m1, p1) = c.in_ok-hold_converses.ensures.printed in
+    let (points, of_points, m2, p2) = c.in_ok-hold_compositions.ensures.printed in
+    let (interval_converses, of_interval_converses, m3, p3) = c.in_ok-hold_converses-2.ensures.printed in
+    let (intervals, of_intervals, m4, p4) = c.in_ok-hold_compositions-2.ensures.printed in
+    let (itself, identity, of_identity, m5, p5) = c.in_ok-hold_identity.ensures.printed in
+    let (direction_converses, of_direction_converses, m6, p6) = c.in_ok-hold_converses-3.ensures.printed in
+    let (directions, of_directions, m7, p7) = c.in_ok-hold_directions.ensures.printed in
+    let held : HeldTables = record {
+      point_converses = point_converses;
+      points = joined points;
+      interval_converses = interval_converses;
+      intervals = joined intervals;
+      identity = itself ∷ joined identity;
+      direction_converses = direction_converses;
+      directions = joined directions;
+    } in
+    let of_held : LiteratureHeld l held = record {
+      point_converses = of_point_converses;
+      points = (points, of_points, refl);
+      interval_converses = of_interval_converses;
+      intervals = (intervals, of_intervals, refl);
+      identity = (i, read, itself, identity, of_identity, refl);
+      direction_converses = of_direction_converses;
+      directions = (directions, of_directions, refl);
+    } in (
+      held,
+      of_held,
+      omega (arith, c.total.ensures, m1, m2, m3, m4, m5, m6, m7),
+      appends_more _ _ _ _ _
+          (appends_more _ _ _ _ _ (appends_more _ _ _ _ _ (appends_more _ _ _ _ _ (appends_more _ _ _ _ _ (appends_more _ _ _ _ _ p1 p2) p3) p4) p5) p6)
+          p7,
+    )

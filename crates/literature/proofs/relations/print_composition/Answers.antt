@@ -21,6 +21,6 @@ returns g c =
     ∙ λ i. text (c.letter.ensures i) (c.word.ensures i) (c.word-2.ensures i) (set i) in
     on_ok_weaker c.writeln.result
     (λ bytes.
-      appends_as (g.W.Write.contents c.args.out.now) (g.W.Write.contents c.writeln.new.self) line
-      (appends_more _ _ _ _ _ (appends_more _ _ _ _ _ (appends_more _ _ _ _ _ c.in_ok-write_all.ensures.bytes c.in_ok-write.ensures.bytes) c.in_ok-print_set.ensures) bytes))
+    appends_as (g.W.Write.contents c.args.out.now) (g.W.Write.contents c.writeln.new.self) line
+    (appends_more _ _ _ _ _ (appends_more _ _ _ _ _ (appends_more _ _ _ _ _ c.in_ok-write_all.ensures.bytes c.in_ok-write.ensures.bytes) c.in_ok-print_set.ensures) bytes))
     c.writeln.ensures.bytes

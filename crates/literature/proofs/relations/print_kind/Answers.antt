@@ -20,7 +20,7 @@ returns g c =
     ∙ λ i. start ++ (decimal (stand i) ++ codes " of " ++ decimal (tried i)) ++ (10 ∷ []) in
     on_ok_weaker c.writeln.result
     (λ bytes.
-      appends_more _ _ _ _ _
-      (appends_more _ _ _ _ _ (appends_more _ _ _ _ _ (appends_more _ _ _ _ _ c.in_ok-print_name.ensures c.in_ok-print_words.ensures) c.in_ok-print_converses.ensures) c.in_ok-print_compositions.ensures)
-      (appends_as (g.W.Write.contents c.print_compositions.new.out) (g.W.Write.contents c.writeln.new.self) line bytes))
+    appends_more _ _ _ _ _
+    (appends_more _ _ _ _ _ (appends_more _ _ _ _ _ (appends_more _ _ _ _ _ c.in_ok-print_name.ensures c.in_ok-print_words.ensures) c.in_ok-print_converses.ensures) c.in_ok-print_compositions.ensures)
+    (appends_as (g.W.Write.contents c.print_compositions.new.out) (g.W.Write.contents c.writeln.new.self) line bytes))
     c.writeln.ensures.bytes
