@@ -9,6 +9,7 @@ pub mod Readings
 pub mod Printing
 pub mod Scored
 pub mod Compared
+pub mod Trials
 pub mod Rowed
 pub mod Completed
 pub mod Looked

@@ -41,6 +41,9 @@ two_parts a t b u = simp append_assoc refl
 pub four_parts : (a p s o t e : List ℕ) → a ++ (p ++ (s ++ (o ++ (t ++ e)))) ≡ a ++ p ++ (s ++ o ++ t) ++ e
 four_parts a p s o t e = simp append_assoc refl
 
+pub three_parts : (a p b s c t d e : List ℕ) → a ++ (p ++ (b ++ (s ++ (c ++ (t ++ (d ++ e)))))) ≡ a ++ p ++ b ++ s ++ c ++ t ++ d ++ e
+three_parts a p b s c t d e = simp append_assoc refl
+
 -- what follows of two facts on what a call answers
 pub if_ok_both : {X E : Type 0} (r : Result X E) (P Q R : X → Type 0) → ((x : X) → P x → Q x → R x) → IfOk r P → IfOk r Q → IfOk r R
 if_ok_both (Ok x) P Q R f p q = f x p q

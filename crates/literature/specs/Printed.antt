@@ -46,7 +46,7 @@ abbrev pub kind_line : ℕ → List ℕ → List ℕ
 kind_line letter name = codes "kind " ++ (letter ∷ 32 ∷ []) ++ name ++ (10 ∷ [])
 
 -- The table of a kind: its line, the words, each converse, each composition, and how many triples fit.
-abbrev pub kind_lines : List (List ℕ) → ℕ → ℕ → (ℕ → ℕ) → (ℕ → ℕ → ℕ → Bool) → List ℕ → List ℕ
+unfoldable pub kind_lines : List (List ℕ) → ℕ → ℕ → (ℕ → ℕ) → (ℕ → ℕ → ℕ → Bool) → List ℕ → List ℕ
 kind_lines words letter b converse fit name =
     kind_line letter name ++ words_line words b ++ below (converse_line words converse) b
     ++ below (λ c. below (composition_line words letter fit c) b) b ++ fitting_line (fitting_tests fit b)

@@ -1,9 +1,12 @@
 // The laws of a relation algebra, tried over the base relations of a kind, which are told by their codes.
-ghost use Rattle.std.specs.Prelude.{◌≡◌, ◌↔◌, Bool, Decides, IfOk, if◌then◌else◌, nat_lt};
-ghost use Rattle.std.specs.List.{All};
+ghost use Rattle.std.specs.Prelude.{◌≡◌, ◌↔◌, Bool, Decides, IfOk, List, OnOk, if◌then◌else◌, nat_lt};
+ghost use Rattle.std.specs.Io.KnownBytes.{Appends};
+ghost use Rattle.std.specs.List.{All, flat_map};
 ghost use Rattle.literature.specs.declared.laws.AlgebraLaw.{AlgebraLaw};
 ghost use Rattle.literature.specs.Laws.{HoldsOfAll, LawHolds, speaks_of};
+ghost use Rattle.literature.specs.Held.{CountedIn};
 ghost use Rattle.literature.specs.Scores.{score_after};
+ghost use Rattle.literature.specs.Tried.{AllTried, LawTrials, LawTried, LawsTried, Trial, TrialOf, failing, fails_line, holding, law_lines, laws_failing, laws_lines, trial_lines};
 
 use crate::algebra::{compositions, converses, single};
 use crate::score::{Score, total};
@@ -62,6 +65,24 @@ impl AlgebraLaw {
     }
 }
 
+/// Prints the line of an instance that fails.
+fn print_failure<K: Notation, W: Write>(
+    out: &mut W,
+    name: &str,
+    relations: (u8, u8, u8),
+) -> io::Result<()>
+    ensures { OnOk result (Appends (W.contents out.old) (W.contents out.new) (fails_line K.words name.now relations.0 relations.1 relations.2)) }
+{
+    let (r, s, t) = relations;
+    writeln!(
+        out,
+        "  fails: {name} at {} {} {}",
+        K::word(r),
+        K::word(s),
+        K::word(t)
+    )
+}
+
 /// Counts in an instance of a law, and prints it where it fails.
 fn try_instance<K: Kind + Notation, W: Write>(
     out: &mut W,
@@ -70,18 +91,13 @@ fn try_instance<K: Kind + Notation, W: Write>(
     law: AlgebraLaw,
     relations: (u8, u8, u8),
 ) -> io::Result<()>
-    ensures { IfOk result (λ _. (holds : Bool) × Decides holds (LawHolds K.Kind.meaning law relations.0 relations.1 relations.2) × (score.new ≡ score_after score.old holds)) }
+    ensures counted { IfOk result (λ _. (holds : Bool) × Decides holds (LawHolds K.Kind.meaning law relations.0 relations.1 relations.2) × (score.new ≡ score_after score.old holds)) }
+    ensures printed { OnOk result ((trial : Trial) × TrialOf K.Kind.meaning law relations.0 relations.1 relations.2 trial × (score.new ≡ score_after score.old trial.holds) × Appends (W.contents out.old) (W.contents out.new) (trial_lines K.Notation.words name.now trial)) }
 {
     let (r, s, t) = relations;
     let holds = law.holds::<K>(r, s, t);
     if !holds {
-        writeln!(
-            out,
-            "  fails: {name} at {} {} {}",
-            K::word(r),
-            K::word(s),
-            K::word(t)
-        )?;
+        print_failure::<K, W>(out, name, relations)?;
     }
     score.count(holds);
     Ok(())
@@ -94,7 +110,8 @@ fn try_law<K: Kind + Notation, W: Write>(
     name: &str,
     law: AlgebraLaw,
 ) -> io::Result<()>
-    ensures { IfOk result (λ _. (score.new.lacking ≡ 0) ↔ ((score.old.lacking ≡ 0) × HoldsOfAll K.Kind.meaning law)) }
+    ensures counted { IfOk result (λ _. (score.new.lacking ≡ 0) ↔ ((score.old.lacking ≡ 0) × HoldsOfAll K.Kind.meaning law)) }
+    ensures printed { OnOk result ((trials : List Trial) × LawTried K.Kind.meaning law trials × CountedIn score.old (holding trials) score.new × Appends (W.contents out.old) (W.contents out.new) (flat_map (trial_lines K.Notation.words name.now) trials)) }
 {
     let (second, third) = law.extent(K::count());
     for r in 0..K::count() {
@@ -113,7 +130,8 @@ fn try_named<K: Kind + Notation, W: Write>(
     name: &str,
     laws: &[AlgebraLaw],
 ) -> io::Result<u32>
-    ensures { IfOk result (λ failing. (failing ≡ 0) ↔ All (HoldsOfAll K.Kind.meaning) laws.now) }
+    ensures counted { IfOk result (λ failing. (failing ≡ 0) ↔ All (HoldsOfAll K.Kind.meaning) laws.now) }
+    ensures printed { IfOk result (λ fail. (trials : List Trial) × LawsTried K.Kind.meaning laws.now trials × (fail ≡ failing trials) × Appends (W.contents out.old) (W.contents out.new) (law_lines K.Notation.words K.Notation.initial name.now trials)) }
 {
     let mut score = Score::default();
     for law in laws {
@@ -127,7 +145,8 @@ fn try_named<K: Kind + Notation, W: Write>(
 
 /// Tries all laws over the base relations of a kind; how many instances fail.
 pub fn try_laws<K: Kind + Notation, W: Write>(out: &mut W) -> io::Result<u32>
-    ensures { IfOk result (λ failing. (failing ≡ 0) ↔ ((law : AlgebraLaw) → HoldsOfAll K.Kind.meaning law)) }
+    ensures counted { IfOk result (λ failing. (failing ≡ 0) ↔ ((law : AlgebraLaw) → HoldsOfAll K.Kind.meaning law)) }
+    ensures printed { IfOk result (λ fail. (trials : LawTrials) × AllTried K.Kind.meaning trials × (fail ≡ laws_failing trials) × Appends (W.contents out.old) (W.contents out.new) (laws_lines K.Notation.words K.Notation.initial trials)) }
 {
     // The names stand here and in no `Display`, since the two laws of the identity are counted under one.
     Ok(total(&[

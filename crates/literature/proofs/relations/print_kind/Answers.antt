@@ -2,13 +2,14 @@
 use Rattle.std.proofs.Common.{◌≡◌, ℕ, ◌+◌, ◌-◌, ◌^◌, min, List, [], ◌∷◌, ◌++◌, ap, codes, ◌∙◌}
 use Rattle.std.specs.Fmt.{decimal}
 use Rattle.std.proofs.lemmas.Result.{on_ok_weaker}
-use Rattle.literature.specs.Printed.{fitting_line, fitting_tests}
+use Rattle.literature.specs.Printed.{fitting_line, fitting_tests, kind_lines}
 use Rattle.literature.specs.declared.score.Score.{Score}
 use Rattle.literature.proofs.Printing.{appends_as, appends_more, two_parts}
 use Rattle.literature.proofs.Scored.{tried_all}
 use Rattle.literature.proofs.relations.print_kind.Goals as goal
 
 pub returns : goal.returns
+unfolding kind_lines
 returns g c =
     let tests = fitting_tests g.K.Kind.fit g.K.Kind.meaning.codes in
     let score = c.fitting-score.ensures in
