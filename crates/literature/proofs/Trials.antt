@@ -1,12 +1,12 @@
 -- Trials of laws, counted in and printed.
-use Rattle.std.proofs.Common.{◌≡◌, ℕ, suc, ◌+◌, Bool, true, false, cond, List, [], ◌∷◌, ◌++◌, Option, Result, Ok, Err, IfOk, OnOk, map, ap, sym, refl, subst, ◌∙◌, append_assoc, append-nil, arith}
+use Rattle.std.proofs.Common.{◌≡◌, ℕ, suc, ◌+◌, Bool, true, false, cond, List, [], ◌∷◌, ◌++◌, Option, ap, sym, refl, subst, ◌∙◌, append_assoc, append-nil, arith}
 use Rattle.std.proofs.lemmas.Grind.{flat_map-append}
 use Rattle.std.proofs.lemmas.List.{map-append}
 use Rattle.std.specs.Io.KnownBytes.{Appends}
 use Rattle.std.specs.List.{flat_map}
 use Rattle.literature.specs.Held.{CountedIn}
 use Rattle.literature.specs.Scores.{score_after, score_of}
-use Rattle.literature.specs.Tried.{Runs, Trial, fails_line, failing, holding, law_line, law_lines, trial_lines}
+use Rattle.literature.specs.Tried.{Runs, Trial, fails_line, holding, trial_lines}
 use Rattle.literature.specs.declared.score.Score.{Score}
 use Rattle.literature.proofs.Printing.{appends_as, appends_more, appends_none}
 use Rattle.literature.proofs.Scored.{score_more}

@@ -285,6 +285,19 @@ mod tests {
     }
 
     #[test]
+    fn prints_differences(rt: HostRuntime) -> Result<(), Fail> {
+        let letters = Letters(&POINT_LETTERS);
+        let rows = &ONE_TURNED;
+        let mut out = Vec::new(rt.alloc());
+        hold_compositions::<Moments, Vec<u8>>(&mut out, Table { letters, rows }, 0).ok();
+        assert_eq!(rt;
+            *out.as_slice(),
+            *b"  differs: M < <: ours <, published >\npublished M composition: 8 of 9 agree\n".as_slice()
+        );
+        Ok(())
+    }
+
+    #[test]
     fn counts_differences(rt: HostRuntime) -> Result<(), Fail> {
         assert_eq!(rt; differing(rt, &POINT_COMPOSITIONS), Some(0));
         assert_eq!(rt; differing(rt, &ONE_TURNED), Some(1));

@@ -184,6 +184,7 @@ mod tests {
         let mut out = Vec::new(rt.alloc());
         try_instance::<Moments, Vec<u8>>(&mut out, &mut score, "identity", law, (3, 0, 0))?;
         assert_eq!(rt; (score.stand, score.lacking), (0, 1));
+        assert_eq!(rt; *out.as_slice(), *b"  fails: identity at  = =\n".as_slice());
         Ok(())
     }
 }

@@ -65,7 +65,7 @@ mod tests {
     fn prints_a_difference(rt: HostRuntime) -> Result<(), Fail> {
         let mut out = Vec::new(rt.alloc());
         print_summary(&mut out, 1)?;
-        assert_eq!(rt; out.as_slice(), b"1 differ\n");
+        assert_eq!(rt; *out.as_slice(), *b"1 differ\n".as_slice());
         Ok(())
     }
 }

@@ -1,5 +1,5 @@
 -- The parts of the line are put together from the left.
-use Rattle.std.proofs.Common.{◌≡◌, List, [], ◌∷◌, ◌++◌, codes, ap, ◌∙◌}
+use Rattle.std.proofs.Common.{◌≡◌, [], ◌∷◌, ◌++◌, codes, ap, ◌∙◌}
 use Rattle.std.proofs.lemmas.Result.{on_ok_weaker}
 use Rattle.literature.specs.Tried.{fails_line}
 use Rattle.literature.proofs.Printing.{appends_as, three_parts}

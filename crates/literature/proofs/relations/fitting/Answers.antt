@@ -1,5 +1,5 @@
 -- One more triple, and the triples of one more relation.
-use Rattle.std.proofs.Common.{◌≡◌, ℕ, Bool, List, [], ◌∷◌, ◌++◌, ap, sym, ◌∙◌, arith}
+use Rattle.std.proofs.Common.{◌≡◌, ℕ, Bool, List, [], ◌∷◌, ◌++◌, ap, arith}
 use Rattle.literature.specs.Printed.{below}
 use Rattle.literature.proofs.Scored.{score_below, score_more}
 use Rattle.literature.proofs.relations.fitting.Goals as goal

@@ -1,5 +1,5 @@
 -- The score is that of the triples so far.
-use Rattle.std.proofs.Common.{◌≡◌, ℕ, Bool, List, [], ◌∷◌, ◌++◌}
+use Rattle.std.proofs.Common.{◌≡◌, [], ◌∷◌, ◌++◌}
 use Rattle.literature.specs.Printed.{below}
 use Rattle.literature.specs.Scores.{score_of}
 use Rattle.literature.proofs.relations.fitting.Given as goal

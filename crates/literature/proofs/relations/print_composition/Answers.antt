@@ -1,5 +1,5 @@
 -- The parts of the line, one after another. The set that is printed is that of the relations that fit.
-use Rattle.std.proofs.Common.{◌≡◌, ℕ, Bool, List, [], ◌∷◌, ◌++◌, ap, ◌∙◌}
+use Rattle.std.proofs.Common.{◌≡◌, ℕ, List, [], ◌∷◌, ◌++◌, ap, ◌∙◌}
 use Rattle.std.proofs.lemmas.Bool.Decides.{same_from_decides}
 use Rattle.std.proofs.lemmas.Result.{on_ok_weaker}
 use Rattle.points.specs.Sets.{has}

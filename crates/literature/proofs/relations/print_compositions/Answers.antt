@@ -1,5 +1,5 @@
 -- One more line, and the lines of one more relation.
-use Rattle.std.proofs.Common.{◌≡◌, ℕ, ap, refl, arith}
+use Rattle.std.proofs.Common.{◌≡◌, ap, refl, arith}
 use Rattle.literature.specs.Printed.{below, composition_line}
 use Rattle.literature.proofs.Printing.{appends_next}
 use Rattle.literature.proofs.relations.print_compositions.Goals as goal

@@ -1,5 +1,4 @@
 -- The lines so far were written.
-use Rattle.std.proofs.Common.{◌++◌}
 use Rattle.std.specs.Io.KnownBytes.{Appends}
 use Rattle.literature.specs.Printed.{below, composition_line}
 use Rattle.literature.proofs.relations.print_compositions.Given as goal

@@ -1,6 +1,5 @@
 -- The parts of the output, one after another.
-use Rattle.std.proofs.Common.{◌≡◌, ℕ, ◌+◌, ap, arith}
-use Rattle.std.specs.Io.KnownBytes.{Appends}
+use Rattle.std.proofs.Common.{◌≡◌, ◌+◌, ap, arith}
 use Rattle.literature.specs.Literature.{literature_differs}
 use Rattle.literature.specs.Printed.{summary_line}
 use Rattle.literature.specs.Scores.{capped}

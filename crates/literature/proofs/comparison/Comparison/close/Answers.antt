@@ -1,5 +1,5 @@
 -- The parts of the line, one after another.
-use Rattle.std.proofs.Common.{◌≡◌, ℕ, List, [], ◌∷◌, ◌++◌, codes, ◌∙◌}
+use Rattle.std.proofs.Common.{◌≡◌, [], ◌∷◌, ◌++◌, codes, ◌∙◌}
 use Rattle.std.specs.Fmt.{decimal}
 use Rattle.literature.specs.Held.{table_line}
 use Rattle.literature.proofs.Printing.{appends_as, appends_more, four_parts}
