@@ -1,0 +1,71 @@
+// All that is printed, and the line on all tables and laws.
+ghost use Rattle.std.specs.Prelude.{List, OnOk};
+ghost use Rattle.std.specs.Io.KnownBytes.{Appends};
+ghost use Rattle.moments.specs.Moments.{moments};
+ghost use Rattle.spells.specs.Spells.{spells};
+ghost use Rattle.dwellings.specs.Dwellings.{dwellings};
+ghost use Rattle.literature.specs.Literature.{HeldTables, LiteratureHeld};
+ghost use Rattle.literature.specs.Output.{figures_line, kinds_lines, output_lines};
+ghost use Rattle.literature.specs.Printed.{summary_line};
+ghost use Rattle.literature.specs.Tried.{AllTried, LawTrials};
+
+use crate::laws::try_laws;
+use crate::literature::{Literature, hold_all};
+use crate::relations::print_kind;
+use crate::score::total;
+use dwellings::Dwellings;
+use moments::Moments;
+use spells::Spells;
+use std::io;
+use std::io::Write;
+
+/// Prints the tables of the three kinds. A kind is a type, so each has a call of its own.
+fn print_kinds<W: Write>(out: &mut W) -> io::Result<()>
+    ensures { OnOk result (Appends (W.contents out.old) (W.contents out.new) kinds_lines) }
+{
+    print_kind::<Moments, W>(out, "moments")?;
+    print_kind::<Spells, W>(out, "spells")?;
+    print_kind::<Dwellings, W>(out, "dwellings")
+}
+
+/// Prints the line on all tables and laws.
+fn print_summary<W: Write>(out: &mut W, differ: u32) -> io::Result<()>
+    ensures { OnOk result (Appends (W.contents out.old) (W.contents out.new) (summary_line differ)) }
+{
+    if differ == 0 {
+        writeln!(out, "all agree")
+    } else {
+        writeln!(out, "{differ} differ")
+    }
+}
+
+/// Prints our tables, holds them against published ones, tries the laws of a relation algebra, and prints whether all agree. The number
+/// of figures that are proved comes last.
+pub fn print_all<W: Write>(out: &mut W, literature: Literature, figures: u8) -> anyhow::Result<()>
+    ensures { OnOk result ((held : HeldTables) × LiteratureHeld literature.entry held × (points : LawTrials) × AllTried moments points × (intervals : LawTrials) × AllTried spells intervals × (directions : LawTrials) × AllTried dwellings directions × Appends (W.contents out.old) (W.contents out.new) (output_lines held points intervals directions figures)) }
+{
+    print_kinds(out)?;
+    let differ = total(&[
+        hold_all(out, literature)?,
+        try_laws::<Moments, W>(out)?,
+        try_laws::<Spells, W>(out)?,
+        try_laws::<Dwellings, W>(out)?,
+    ]);
+    print_summary(out, differ)?;
+    writeln!(out, "figures {figures} proved")?;
+    Ok(())
+}
+
+#[cfg(test)]
+mod tests {
+    use super::*;
+    use std::test::Fail;
+
+    #[test]
+    fn prints_a_difference(rt: HostRuntime) -> Result<(), Fail> {
+        let mut out = Vec::new(rt.alloc());
+        print_summary(&mut out, 1)?;
+        assert_eq!(rt; *out.as_slice(), *b"1 differ\n".as_slice());
+        Ok(())
+    }
+}

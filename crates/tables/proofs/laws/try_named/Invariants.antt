@@ -1,9 +1,0 @@
--- The score lacks nothing exactly if the laws so far hold.
-use Rattle.std.proofs.Common.{ℕ, ◌<◌, get_or}
-use Rattle.tables.specs.Laws.{HoldsOfAll}
-use Rattle.tables.specs.declared.laws.AlgebraLaw.{AlgebraLaw}
-use Rattle.tables.proofs.Lacking.{Counts}
-use Rattle.tables.proofs.laws.try_named.Given as goal
-
-abbrev pub invariant-loop-law : goal.invariant-loop-law
-invariant-loop-law g l = Counts 0 l.score.lacking ((k : ℕ) → k < l.law-index → (d : AlgebraLaw) → HoldsOfAll g.K.Kind.meaning (get_or l.laws k d))

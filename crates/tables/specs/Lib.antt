@@ -1,7 +1,0 @@
--- The definitions that the contracts cite.
-pub mod Relations
-pub mod Scores
-pub mod Letters
-pub mod Laws
-pub mod Published
-pub mod Literature
