@@ -1,3 +1,4 @@
 pub mod Printing
 pub mod Settling
 pub mod Cutting
+pub mod Lengths

@@ -27,7 +27,7 @@ use Rattle.settlement.specs.declared.stop.Stop.{Stop}
 use Rattle.settlement.specs.declared.stop.Stop.TheVariants.{Unfit, Failed}
 use Rattle.settlement.specs.Named.{by_kind, by_tally, by_head}
 use Rattle.settlement.specs.Output.{report_as, ReliableAs, report_below, ReliableBelow, sheet_report, Reliable, fault_of, settled_sheets, reports_in, AllReliable}
-use Rattle.settlement.specs.Ends.{fresh, SettlesAs, Ends, EndsReliably, unless_refused}
+use Rattle.settlement.specs.Ends.{Moves, fresh, SettlesAs, Ends, EndsReliably, unless_refused}
 use Rattle.settlement.proofs.Printing.{appends_nothing, appends_both}
 
 own : Own spelling_of
@@ -78,7 +78,7 @@ module _ (s : Spelling) (h : Head) (n : ℕ) (v : View) (r : Result (Unit {0}) S
 
   abbrev Comes : HeadKind → HeadTally → Type 0
   Comes a b =
-      OnOk r (w ≡ load_after s v)
+      Moves r w (load_after s v)
       × Ends r (load_fault s v) old new (unless_refused (load_fault s v) (by_kind a (λ V k. by_tally b (λ C t. report_as k t n loads))))
       × OnOk r (by_kind a (λ V k. by_tally b (λ C t. ReliableAs k t loads)))
 
@@ -91,7 +91,7 @@ module _ (s : Spelling) (h : Head) (n : ℕ) (v : View) (r : Result (Unit {0}) S
   of_each Dwellings SwornFirst i = (i.after, i.printed, i.reliable)
 
   pub of_head : by_head h (λ V C k t. SettlesAs s k t n v r w old new)
-      → OnOk r (w ≡ load_after s v) × Ends r (load_fault s v) old new (unless_refused (load_fault s v) (report_below h n loads)) × OnOk r (ReliableBelow h loads)
+      → Moves r w (load_after s v) × Ends r (load_fault s v) old new (unless_refused (load_fault s v) (report_below h n loads)) × OnOk r (ReliableBelow h loads)
   of_head i = of_each (kind_of h.letter) (tally_of h.tally) i
 
 -- what the file comes to, where a reading of it is known
@@ -154,7 +154,7 @@ module _ (file : List ℕ) (old new : Option (List ℕ)) (number : ℕ) (v : Vie
     pub stopped : (stop : Stop) (new' : Option (List ℕ)) (text : List ℕ) → Ends (Err stop) (load_fault (spelling_of h) w) new new' (unless_refused (load_fault (spelling_of h) w) text)
         → Ends (Err stop) (fault_of file) old new' (reports_in file)
     stopped (Unfit f) new' text t = printed_all (Some f) (at_unfit f t.0) new' (subst (λ o. Appends new new' (unless_refused o text)) t.0 t.1)
-    stopped (Failed x) new' text t = tt
+    stopped (Failed x) new' text t = t
 
     pub stopped_reliably : (stop : Stop) (new' : Option (List ℕ)) (text : List ℕ) → Ends (Err stop) (load_fault (spelling_of h) w) new new' (unless_refused (load_fault (spelling_of h) w) text) → EndsReliably (Err stop) file
     stopped_reliably (Unfit f) new' text t = reliable_all (Some f) (at_unfit f t.0)

@@ -37,39 +37,45 @@ pub record OfTally (C : Type 0) : Type 0 where
   pub letter : ℕ
   pub text : C → List ℕ
 
--- put together
+-- a kind, by its parts
 abbrev pub of_kind : {V : Type 0} → Meaning V → (ℕ → ℕ → ℕ → Bool) → (ℕ → List ℕ → ℕ → V) → ℕ → (V → List ℕ) → OfKind V
 of_kind meaning fits values letter text = record { meaning = meaning; fit = fits; values = values; letter = letter; text = text }
 
+-- a tally, by its parts
 abbrev pub of_tally : {C : Type 0} → Joining Claim C → (C → C → Bool) → ℕ → (C → List ℕ) → OfTally C
 of_tally joining order letter text = record { joining = joining; order = order; letter = letter; text = text }
 
--- the three kinds: a moment is printed as its number, the others as their two numbers with a space between
+-- moments: printed as their number
 abbrev pub of_moments : OfKind Moment
 of_moments = record { meaning = moments; fit = fit line; values = moment; letter = kind_letter Moments; text = λ v. decimal v.at }
 
+-- spells: the start, a space, the end
 abbrev pub of_spells : OfKind Spell
 of_spells = record { meaning = spells; fit = fit timeline; values = spell; letter = kind_letter Spells; text = λ v. decimal v.start ++ 32 ∷ decimal v.end }
 
+-- dwellings: the east number, a space, the north number
 abbrev pub of_dwellings : OfKind Dwelling
 of_dwellings = record { meaning = dwellings; fit = fit compass; values = dwelling; letter = kind_letter Dwellings; text = λ v. decimal v.east ++ 32 ∷ decimal v.north }
 
--- the two tallies: a weight is printed as its number, a sworn cost as the sworn count and the weight with a slash between
+-- by weight: printed as one number
 abbrev pub of_weights : OfTally ℕ
 of_weights = record { joining = by_weight; order = nat_le; letter = tally_letter ByWeight; text = decimal }
 
+-- sworn first: the sworn count, a slash, the weight
 abbrev pub of_sworn : OfTally SwornCost
 of_sworn = record { joining = sworn_first; order = sworn_order; letter = tally_letter SwornFirst; text = λ c. decimal c.sworn ++ 47 ∷ decimal c.weight }
 
--- what is said of each kind and tally, said of those that a head names
+-- what f says of a kind, for the kind that is named
 abbrev pub by_kind {ℓ} : {X : Type ℓ} → HeadKind → ((V : Type 0) → OfKind V → X) → X
 by_kind Moments f = f _ of_moments
 by_kind Spells f = f _ of_spells
 by_kind Dwellings f = f _ of_dwellings
 
+-- the same of a tally
 abbrev pub by_tally {ℓ} : {X : Type ℓ} → HeadTally → ((C : Type 0) → OfTally C → X) → X
 by_tally ByWeight f = f _ of_weights
 by_tally SwornFirst f = f _ of_sworn
 
+-- and of the kind and the tally that a head names
 abbrev pub by_head {ℓ} : {X : Type ℓ} → Head → ((V C : Type 0) → OfKind V → OfTally C → X) → X
 by_head h f = by_kind (kind_of h.letter) (λ V k. by_tally (tally_of h.tally) (λ C t. f V C k t))

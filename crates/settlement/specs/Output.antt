@@ -31,17 +31,19 @@ unfoldable pub ReliableAs : {V C : Type 0} → OfKind V → OfTally C → Conten
 ReliableAs k t c =
     AccountLaw k.meaning (rules_of k t) c.items c.rows (searched (rules_of k t) c.items c.rows steps) (account_of k.values (rules_of k t) steps c.items c.rows)
 
--- the report of the n-th sheet of a file
+-- the report of the n-th sheet of a file, which stands below this head
 abbrev pub report_below : Head → ℕ → Contents → List ℕ
 report_below h n c = by_head h (λ V C k t. report_as k t n c)
 
+-- the same of a sheet as it stands in its file
 unfoldable pub sheet_report : ℕ → Sheet → List ℕ
 sheet_report n t = report_below t.head n (contents t.head.size t.rows)
 
--- and what is promised of it
+-- and what is promised of what it reports
 abbrev pub ReliableBelow : Head → Contents → Type 0
 ReliableBelow h c = by_head h (λ V C k t. ReliableAs k t c)
 
+-- the same of a sheet as it stands in its file
 unfoldable pub Reliable : Sheet → Type 0
 Reliable t = ReliableBelow t.head (contents t.head.size t.rows)
 
@@ -65,6 +67,6 @@ fault_text None = []
 abbrev pub output_of : List ℕ → List ℕ
 output_of file = reports_in file ++ fault_text (fault_of file)
 
--- each of some sheets is reported reliably
+-- each sheet before the file's first fault is reported reliably
 abbrev pub AllReliable : List ℕ → Type 0
 AllReliable file = All Reliable (settled_sheets file)

@@ -1,9 +1,9 @@
 // All sheets of a file are settled.
-ghost use Rattle.std.specs.Prelude.{◌≡◌, IfOk, IfSome, OnOk, is_none, take};
+ghost use Rattle.std.specs.Prelude.{◌≡◌, IfErr, IfOk, IfSome, OnOk, is_none, take};
 ghost use Rattle.std.specs.Io.KnownBytes.{Appends};
 ghost use Rattle.reports.specs.Faults.{fault_line};
 ghost use Rattle.settlement.specs.Output.{fault_of, reports_in, output_of, AllReliable};
-ghost use Rattle.settlement.specs.Ends.{Ends, EndsReliably};
+ghost use Rattle.settlement.specs.Ends.{Ends, EndsReliably, Wants};
 
 use crate::sheet::settle_sheet;
 use crate::stop::{Failure, Stop};
@@ -15,8 +15,8 @@ use std::alloc::Global;
 use std::io;
 use std::io::{Read, Write};
 
-// More bytes than the line of a fault takes.
-const LONGEST_LINE: usize = 128;
+// At least as many bytes as the line of a fault has, where a number may have 64 digits.
+const LONGEST_LINE: usize = 512;
 
 // Settles the sheets of a file up to its first fault, and prints the report of each.
 fn settle_sheets<W: Write>(heap: Global, file: &[u8], out: &mut W) -> Result<(), Stop>
@@ -33,7 +33,8 @@ fn settle_sheets<W: Write>(heap: Global, file: &[u8], out: &mut W) -> Result<(),
 }
 
 fn print_fault<W: Write>(heap: Global, fault: SheetFault, out: &mut W) -> Result<(), Failure>
-    ensures { OnOk result (Appends (W.contents out.old) (W.contents out.new) (fault_line fault)) }
+    ensures printed { OnOk result (Appends (W.contents out.old) (W.contents out.new) (fault_line fault)) }
+    ensures fails { IfErr result Wants }
 {
     let mut buffer = [0u8; LONGEST_LINE];
     let length = write_fault(heap, &fault, &mut buffer)?;
@@ -42,11 +43,12 @@ fn print_fault<W: Write>(heap: Global, fault: SheetFault, out: &mut W) -> Result
 }
 
 /// Settles the sheets of a file up to its first fault, and prints the report of each, and the line of the fault. Answers whether there is
-/// no fault.
+/// no fault. Fails only for want of memory, or if printing fails.
 pub fn settle_file<W: Write>(heap: Global, file: &[u8], out: &mut W) -> Result<bool, Failure>
     ensures fits { IfOk result (λ fits. fits ≡ is_none (fault_of file.now)) }
     ensures printed { OnOk result (Appends (W.contents out.old) (W.contents out.new) (output_of file.now)) }
     ensures reliable { OnOk result (AllReliable file.now) }
+    ensures fails { IfErr result Wants }
 {
     match settle_sheets(heap, file, out) {
         Ok(()) => Ok(true),
@@ -68,7 +70,7 @@ fn read_file<R: Read + Drop>(heap: Global, input: R) -> io::Result<Vec<u8>>
     Ok(file)
 }
 
-/// Settles, likewise, the file that is read to its end, or as far as shows that it is too long.
+/// Reads a file to its end, or one byte more than a file may have, and settles it as `settle_file` does.
 pub fn settle<R: Read + Drop, W: Write>(
     heap: Global,
     input: R,
@@ -77,6 +79,7 @@ pub fn settle<R: Read + Drop, W: Write>(
     ensures fits { IfSome (R.remaining input) (λ file. IfOk result (λ fits. fits ≡ is_none (fault_of file))) }
     ensures printed { IfSome (R.remaining input) (λ file. OnOk result (Appends (W.contents out.old) (W.contents out.new) (output_of file))) }
     ensures reliable { IfSome (R.remaining input) (λ file. OnOk result (AllReliable file)) }
+    ensures fails { IfErr result Wants }
 {
     let file = read_file(heap, input)?;
     settle_file(heap, file.as_slice(), out)

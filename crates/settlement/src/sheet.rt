@@ -3,7 +3,7 @@ ghost use Rattle.reports.specs.Spellings.{spelling_of};
 ghost use Rattle.files.specs.Views.{view_of};
 ghost use Rattle.files.specs.Words.{spelled};
 ghost use Rattle.settlement.specs.Named.{of_kind, of_tally, by_head};
-ghost use Rattle.settlement.specs.Ends.{SettlesAs};
+ghost use Rattle.settlement.specs.Ends.{SettlesAs, ShortTexts};
 
 use crate::stop::Stop;
 use dwellings::Dwellings;
@@ -23,8 +23,9 @@ use tallies::by_weight::ByWeight;
 use tallies::sworn_first::SwornFirst;
 use tallies::tally::{Joins, Tally};
 
-// More bytes than a report takes: the longest has 1,217 (`the_longest_report` in trials).
-const LONGEST_REPORT: usize = 4096;
+// At least as many bytes as a report has, by its definition alone, where a number may have 64 digits. The longest that is printed has 1,217
+// (`the_longest_report` in trials).
+const LONGEST_REPORT: usize = 8192;
 
 // Loads and settles the sheet whose head waits, and prints the report.
 fn settle_as<K: PrintedKind, T: PrintedTally, W: Write>(
@@ -33,13 +34,14 @@ fn settle_as<K: PrintedKind, T: PrintedTally, W: Write>(
     number: u64,
     out: &mut W,
 ) -> Result<(), Stop>
+    requires { ShortTexts K.PrintedKind.value_text × ShortTexts T.PrintedTally.cost_text }
     ensures { SettlesAs (spelled K.Kind.meaning K.Notation.words K.Notation.initial T.TallyLetter.initial)
         (of_kind K.Kind.meaning K.Kind.fit K.Kind.values K.Notation.initial K.PrintedKind.value_text) (of_tally T.Joins.joining T.Tally.order T.TallyLetter.initial T.PrintedTally.cost_text)
         number (view_of reader.old) result (view_of reader.new) (W.contents out.old) (W.contents out.new) }
 {
     let mut draft = Draft::<K, T>::new(heap)?;
     reader.load(&mut draft)?;
-    // A buffer and how much of it is the report: by the rule for reports their calls put texts into buffers of their callers.
+    // Reports are put at the front of their caller's buffer.
     let mut buffer = [0u8; LONGEST_REPORT];
     let length = account(heap, number, draft, &mut buffer)?;
     out.write_all(&buffer[..length])?;

@@ -1,5 +1,7 @@
 // Why a settling ends before the end of its file.
-ghost use Rattle.std.specs.Prelude.{◌≡◌};
+ghost use Rattle.std.specs.Prelude.{◌≡◌, ◌++◌, Some, None, codes};
+ghost use Rattle.std.specs.Fmt.{decimal};
+ghost use Rattle.statements.specs.Faults.{number};
 ghost use Rattle.settlement.specs.declared.stop.Failure.TheVariants.{Refused, Io};
 ghost use Rattle.settlement.specs.declared.stop.Stop.TheVariants.{Unfit, Failed};
 
@@ -11,7 +13,7 @@ use std::{fmt, io};
 /// Why a file can't be settled, whatever it says.
 #[derive(Debug, Drop)]
 pub enum Failure {
-    /// A call is refused: there is no memory.
+    /// A call is refused; `settle` says by which refusals.
     Refused(Fault),
     /// Reading or printing fails.
     Io(io::Error),
@@ -20,8 +22,9 @@ pub enum Failure {
 /// Why a settling ends before the end of its file.
 #[derive(Drop)]
 pub enum Stop {
-    /// The file is refused there.
+    /// The file has this fault.
     Unfit(SheetFault),
+    /// It can't be settled, whatever the file says.
     Failed(Failure),
 }
 
@@ -65,7 +68,10 @@ impl From<io::Error> for Failure {
     }
 }
 
+/// What is said of the refusal, or of the error.
 impl fmt::Display for Failure {
+    ghost output = { λ f. elim f [ Refused refusal ↦ Some (codes "refused by " ++ decimal (number refusal)) | Io error ↦ None ] };
+
     fn fmt<W: fmt::Write>(&self, f: &mut fmt::Formatter<W>) -> fmt::Result {
         match self {
             Failure::Refused(refusal) => write!(f, "{refusal}"),
