@@ -1,5 +1,5 @@
 -- The score of tests that are counted in one by one.
-use Rattle.std.proofs.Common.{◌≡◌, ℕ, ◌+◌, ◌-◌, ◌^◌, min, Bool, true, false, List, [], ◌∷◌, ◌++◌, length, refl, ap, sym, ◌∙◌, append_assoc, codes, arith}
+use Rattle.std.proofs.Common.{◌≡◌, ◌↔◌, ℕ, ◌+◌, ◌-◌, ◌^◌, min, Bool, true, false, List, [], ◌∷◌, ◌++◌, length, refl, ap, sym, ◌∙◌, append_assoc, codes, arith}
 use Rattle.literature.specs.Scores.{capped, failed, passed, score_after, score_of}
 use Rattle.std.specs.Fmt.{decimal}
 use Rattle.literature.specs.Printed.{below, score_text}
@@ -56,3 +56,11 @@ score_shown s tests tried is all =
     let stand = ap (λ (s : Score). s.stand) is in
     let number = all ∙ ap (λ (s : Score). min (s.stand + s.lacking) (2 ^ 32 - 1)) is ∙ tried_all tests in
     λ i. decimal (stand i) ++ codes " of " ++ decimal (number i)
+
+-- None is lacking in all exactly if none is in each.
+pub none_of_four : (A B C D : Type 0) (w x y z a b c d : ℕ) → w ≡ a → x ≡ b → y ≡ c → z ≡ d → ((w ≡ 0) ↔ A) → ((x ≡ 0) ↔ B) → ((y ≡ 0) ↔ C) → ((z ≡ 0) ↔ D)
+    → (capped (a + (b + (c + d))) ≡ 0) ↔ (A × B × C × D)
+none_of_four A B C D w x y z a b c d e f g h p q r s = (
+  λ n. (p.0 (omega (arith, n, e)), q.0 (omega (arith, n, f)), r.0 (omega (arith, n, g)), s.0 (omega (arith, n, h))),
+  λ all. let i = p.1 all.0 in let j = q.1 all.1 in let k = r.1 all.2 in let l = s.1 all.3 in omega (arith, e, f, g, h, i, j, k, l),
+)

@@ -1,13 +1,9 @@
 // All that is printed, and the line on all tables and laws.
-ghost use Rattle.std.specs.Prelude.{List, OnOk};
+ghost use Rattle.std.specs.Prelude.{OnOk};
 ghost use Rattle.std.specs.Io.KnownBytes.{Appends};
-ghost use Rattle.moments.specs.Moments.{moments};
-ghost use Rattle.spells.specs.Spells.{spells};
-ghost use Rattle.dwellings.specs.Dwellings.{dwellings};
-ghost use Rattle.literature.specs.Literature.{HeldTables, LiteratureHeld};
-ghost use Rattle.literature.specs.Output.{figures_line, kinds_lines, output_lines};
+ghost use Rattle.literature.specs.Literature.{LiteratureComplete};
+ghost use Rattle.literature.specs.Output.{kinds_lines, output_lines, Told};
 ghost use Rattle.literature.specs.Printed.{summary_line};
-ghost use Rattle.literature.specs.Tried.{AllTried, LawTrials};
 
 use crate::laws::try_laws;
 use crate::literature::{Literature, hold_all};
@@ -40,9 +36,10 @@ fn print_summary<W: Write>(out: &mut W, differ: u32) -> io::Result<()>
 }
 
 /// Prints our tables, holds them against published ones, tries the laws of a relation algebra, and prints whether all agree. The number
-/// of figures that are proved comes last.
+/// of figures that are proved comes last. A published table that leaves out a relation, but those that it may leave out, ends it.
 pub fn print_all<W: Write>(out: &mut W, literature: Literature, figures: u8) -> anyhow::Result<()>
-    ensures { OnOk result ((held : HeldTables) × LiteratureHeld literature.entry held × (points : LawTrials) × AllTried moments points × (intervals : LawTrials) × AllTried spells intervals × (directions : LawTrials) × AllTried dwellings directions × Appends (W.contents out.old) (W.contents out.new) (output_lines held points intervals directions figures)) }
+    ensures complete { OnOk result (LiteratureComplete literature.entry) }
+    ensures printed { OnOk result ((told : Told literature.entry) × Appends (W.contents out.old) (W.contents out.new) (output_lines told.held told.points told.intervals told.directions figures)) }
 {
     print_kinds(out)?;
     let differ = total(&[
