@@ -1,7 +1,6 @@
 -- No report and no line of a fault is longer than the buffer that it is put in.
-use Rattle.std.proofs.Common.{◌≡◌, ℕ, zero, suc, ◌+◌, ◌*◌, ◌/◌, ◌%◌, ◌<◌, ◌≤◌, Bool, true, false, List, [], ◌∷◌, ◌++◌, length, Err, sym, refl, ap, ◌∙◌, subst, arith, ◌==◌, length-append, cond, map}
+use Rattle.std.proofs.Common.{◌≡◌, ℕ, zero, suc, ◌+◌, ◌*◌, ◌/◌, ◌%◌, ◌≤◌, Bool, true, false, List, [], ◌∷◌, ◌++◌, length, Err, refl, arith, ◌==◌, length-append, cond, map}
 use Rattle.std.specs.Prelude.{codes, if◌then◌else◌}
-use Rattle.std.proofs.lemmas.Bool.{cases_Bool}
 use Rattle.std.specs.Fmt.{decimal, digits, digits_onto, digit_glyph}
 use Rattle.statements.specs.declared.fault.Fault.{Fault}
 use Rattle.statements.specs.declared.fault.Fault.TheVariants.{Memory}
@@ -15,7 +14,7 @@ use Rattle.reports.specs.Account.{account_of, report_on}
 use Rattle.settlement.specs.Ends.{ShortTexts}
 use Rattle.files.specs.Faults.{SheetFault, fault_number, fault_field}
 use Rattle.reports.specs.Faults.{fault_line}
-use Rattle.reports.specs.Lines.{Print, costs_part, sheet_line, item_line, person_line, lines_from, report_of, Puts, PutsOrWants}
+use Rattle.reports.specs.Lines.{Print, item_line, person_line, lines_from, report_of, PutsOrWants}
 
 digits_short : (k base : ℕ) (upper : Bool) (n : ℕ) (acc : List ℕ) → length (digits_onto k base upper n acc) ≤ k + length acc
 digits_short zero base upper n acc = omega arith

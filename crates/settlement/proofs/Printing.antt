@@ -1,27 +1,17 @@
 -- What a text does to the bytes that a writer holds.
-use Rattle.std.proofs.Common.{◌≡◌, ℕ, List, [], ◌++◌, Some, None, Ok, Err, Option, Result, length, take, sym, refl, ap, ◌∙◌, append_assoc, append-nil}
+use Rattle.std.proofs.Common.{◌≡◌, ℕ, List, ◌++◌, Some, None, Ok, Err, Option, Result, length, take, refl, ap, ◌∙◌}
 use Rattle.std.proofs.Math.Seq.{take-append_seam}
 use Rattle.std.specs.Io.KnownBytes.{Appends}
+use Rattle.std.proofs.KnownBytes.{Appends-nil}
 use Rattle.files.specs.Faults.{SheetFault, answered}
 use Rattle.settlement.specs.declared.stop.Stop.{Stop}
 use Rattle.settlement.specs.declared.stop.Stop.TheVariants.{Unfit}
 use Rattle.settlement.specs.Ends.{Ends, unless_refused}
 
-pub appends_nothing : (o : Option (List ℕ)) → Appends o o []
-appends_nothing None = tt
-appends_nothing (Some xs) = sym (append-nil xs)
-
--- one text after another
-pub appends_both : (o p q : Option (List ℕ)) (xs ys : List ℕ) → Appends o p xs → Appends p q ys → Appends o q (xs ++ ys)
-appends_both None p q xs ys f g = tt
-appends_both (Some b) None q xs ys f g = absurd f
-appends_both (Some b) (Some c) None xs ys f g = absurd g
-appends_both (Some b) (Some c) (Some d) xs ys f g = g ∙ ap (λ z. z ++ ys) f ∙ append_assoc b xs ys
-
 -- a sheet is refused, and nothing is printed
 pub ends_refused : (o : Option SheetFault) (f : SheetFault) (old : Option (List ℕ)) (text : List ℕ) (r : Result (Unit {0}) Stop) → answered o (tt {0}) ≡ Err f → r ≡ Err (Unfit f)
     → Ends r o old old (unless_refused o text)
-ends_refused (Some g) f old text r e s = rw s ((ap same e), appends_nothing old)
+ends_refused (Some g) f old text r e s = rw s ((ap same e), Appends-nil old)
   where
     same : Result (Unit {0}) SheetFault → Option SheetFault
     same (Err h) = Some h

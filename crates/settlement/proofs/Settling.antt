@@ -28,7 +28,7 @@ use Rattle.settlement.specs.declared.stop.Stop.TheVariants.{Unfit, Failed}
 use Rattle.settlement.specs.Named.{by_kind, by_tally, by_head}
 use Rattle.settlement.specs.Output.{report_as, ReliableAs, report_below, ReliableBelow, sheet_report, Reliable, fault_of, settled_sheets, reports_in, AllReliable}
 use Rattle.settlement.specs.Ends.{Moves, fresh, SettlesAs, Ends, EndsReliably, unless_refused}
-use Rattle.settlement.proofs.Printing.{appends_nothing, appends_both}
+use Rattle.std.proofs.KnownBytes.{Appends-nil, Appends-trans}
 
 own : Own spelling_of
 own h k t = search rules
@@ -60,7 +60,7 @@ start_stands file old = record {
   counted = refl;
   room = omega arith;
   split = ap (λ n. reading n (start_of file)) (add-one (length file));
-  printed = appends_nothing old;
+  printed = Appends-nil old;
   reliable = All-nil Reliable;
   ahead = λ f. (omega (arith, starts_short f), from_start file f);
 }
@@ -130,7 +130,7 @@ module _ (file : List ℕ) (old new : Option (List ℕ)) (number : ℕ) (v : Vie
     pub printed_all : (new' : Option (List ℕ)) → Appends new new' [] → (fault_of file ≡ o) × Appends old new' (reports_in file)
     printed_all new' a = (
       met_fault file s.done o is,
-      subst (Appends old new') (append-nil (lines_from sheet_report 1 s.done) ∙ sym (met_reports file s.done o is)) (appends_both old new new' _ [] s.printed a),
+      subst (Appends old new') (append-nil (lines_from sheet_report 1 s.done) ∙ sym (met_reports file s.done o is)) (Appends-trans old new new' _ [] s.printed a),
     )
 
     pub reliable_all : AllReliable file
@@ -240,7 +240,7 @@ module _ (file : List ℕ) (old new : Option (List ℕ)) (number : ℕ) (v : Vie
         room = omega (arith, s.room, left.1);
         split = joined (suc left.0) left.1;
         printed = subst (Appends old new') (sym (lines_push sheet_report 1 s.done (drafted h loaded)))
-            (appends_both old new new' _ _ s.printed (subst (Appends new new') reported a));
+            (Appends-trans old new new' _ _ s.printed (subst (Appends new new') reported a));
         reliable = All-push Reliable s.done (drafted h loaded) s.reliable (relied r);
         ahead = λ f. (omega (arith, shorter, (s.ahead fits).0, left.1), between_again spelling_of v h b (record { answered = e; loaded = g }));
       }

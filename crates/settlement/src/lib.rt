@@ -2,5 +2,5 @@
 #![tactic(auto)]
 
 pub mod file;
-pub mod sheet;
+mod sheet;
 pub mod stop;

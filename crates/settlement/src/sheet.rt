@@ -50,7 +50,7 @@ fn settle_as<K: PrintedKind, T: PrintedTally, W: Write>(
 
 /// Loads and settles the sheet whose head waits, and prints the report, by the kind and the tally that the head names. These are types, so
 /// each pair has a call of its own.
-pub fn settle_sheet<W: Write>(
+pub(crate) fn settle_sheet<W: Write>(
     heap: Global,
     reader: &mut Reader,
     head: Head,

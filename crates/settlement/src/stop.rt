@@ -21,7 +21,7 @@ pub enum Failure {
 
 /// Why a settling ends before the end of its file.
 #[derive(Drop)]
-pub enum Stop {
+pub(crate) enum Stop {
     /// The file has this fault.
     Unfit(SheetFault),
     /// It can't be settled, whatever the file says.

@@ -5,7 +5,7 @@ use Rattle.files.specs.Views.{View, view_of, head_answer, head_after, load_fault
 use Rattle.reports.specs.Spellings.{spelling_of}
 use Rattle.settlement.specs.Output.{ReliableBelow, report_below}
 use Rattle.settlement.specs.Ends.{fresh, Ends, unless_refused}
-use Rattle.settlement.proofs.Printing.{appends_nothing}
+use Rattle.std.proofs.KnownBytes.{Appends-nil}
 use Rattle.settlement.proofs.Settling.{Stands, of_head, start_stands, at_refusal, at_end, at_loaded, at_further, printed_all, reliable_all, stopped, stopped_reliably}
 use Rattle.settlement.proofs.file.settle_sheets.Goals as goal
 
@@ -18,7 +18,7 @@ returns-in_err-head-clause-printed g c =
     let s = c.loop-head.invariant in
     let f = c.in_err-head.field-0.0 in
     let asked : head_answer (view_of c.loop-head.reader) ≡ Err f = search rules in
-    rw (p.1, p.2) (printed_all _ _ _ _ _ s (Some f) (at_refusal _ _ _ _ _ s f asked) _ (appends_nothing _))
+    rw (p.1, p.2) (printed_all _ _ _ _ _ s (Some f) (at_refusal _ _ _ _ _ s f asked) _ (Appends-nil _))
 
 pub returns-in_err-head-clause-reliable : goal.returns-in_err-head-clause-reliable
 returns-in_err-head-clause-reliable g c =
@@ -80,7 +80,7 @@ pub returns-clause-printed : goal.returns-clause-printed
 returns-clause-printed g c =
     let s = c.loop-head.invariant in
     let asked : head_answer (view_of c.loop-head.reader) ≡ Ok None = search rules in
-    printed_all _ _ _ _ _ s None (at_end _ _ _ _ _ s asked) _ (appends_nothing _)
+    printed_all _ _ _ _ _ s None (at_end _ _ _ _ _ s asked) _ (Appends-nil _)
 
 pub returns-clause-reliable : goal.returns-clause-reliable
 returns-clause-reliable g c =
