@@ -144,7 +144,7 @@ fn try_named<K: Kind + Notation, W: Write>(
 }
 
 /// Tries all laws over the base relations of a kind; how many instances fail.
-pub fn try_laws<K: Kind + Notation, W: Write>(out: &mut W) -> io::Result<u32>
+pub(crate) fn try_laws<K: Kind + Notation, W: Write>(out: &mut W) -> io::Result<u32>
     ensures counted { IfOk result (λ failing. (failing ≡ 0) ↔ ((law : AlgebraLaw) → HoldsOfAll K.Kind.meaning law)) }
     ensures printed { IfOk result (λ fail. (trials : LawTrials) × AllTried K.Kind.meaning trials × (fail ≡ laws_failing trials) × Appends (W.contents out.old) (W.contents out.new) (laws_lines K.Notation.words K.Notation.initial trials)) }
 {

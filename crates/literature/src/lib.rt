@@ -3,11 +3,11 @@
 
 mod algebra;
 pub mod comparison;
-pub mod laws;
+mod laws;
 pub mod letters;
 pub mod literature;
 pub mod published;
-pub mod relations;
-pub mod score;
+mod relations;
+mod score;
 pub mod summary;
 mod transitivity;

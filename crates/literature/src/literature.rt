@@ -105,7 +105,7 @@ pub fn published_tables() -> Literature<'static> {
 }
 
 /// Holds our tables against all published ones; how many entries differ.
-pub fn hold_all<W: Write>(out: &mut W, literature: Literature) -> anyhow::Result<u32>
+pub(crate) fn hold_all<W: Write>(out: &mut W, literature: Literature) -> anyhow::Result<u32>
     ensures agree { IfOk result (λ differing. (differing ≡ 0) ↔ LiteratureAgrees literature.entry) }
     ensures complete { IfOk result (λ _. LiteratureComplete literature.entry) }
     ensures printed { IfOk result (λ differ. (held : HeldTables) × LiteratureHeld literature.entry held × (differ ≡ literature_differs held) × Appends (W.contents out.old) (W.contents out.new) (literature_lines held)) }

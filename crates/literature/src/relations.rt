@@ -98,7 +98,7 @@ fn print_name<K: Notation, W: Write>(out: &mut W, name: &str) -> io::Result<()>
 }
 
 /// Prints the table of a kind.
-pub fn print_kind<K: Kind + Notation, W: Write>(out: &mut W, name: &str) -> io::Result<()>
+pub(crate) fn print_kind<K: Kind + Notation, W: Write>(out: &mut W, name: &str) -> io::Result<()>
     ensures { OnOk result (Appends (W.contents out.old) (W.contents out.new) (kind_lines K.Notation.words K.Notation.initial K.Kind.meaning.codes K.Kind.meaning.converse K.Kind.fit name.now)) }
 {
     print_name::<K, W>(out, name)?;

@@ -30,7 +30,7 @@ impl Score {
 }
 
 /// The sum of counts; one that would be above 2^32 - 1 stays there.
-pub fn total(counts: &[u32]) -> u32
+pub(crate) fn total(counts: &[u32]) -> u32
     ensures { result ≡ min (sum counts.now) u32.MAX }
 {
     counts
