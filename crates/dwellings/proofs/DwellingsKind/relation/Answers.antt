@@ -1,6 +1,6 @@
 use Rattle.std.proofs.Common.{rules}
 use Rattle.dwellings.proofs.DwellingsKind.relation.Goals as goal
 
--- Given, since the search for it takes 5 s where it fails.
+-- Given, since a wrong body is refused 5 s sooner with it.
 pub returns-in-Greater-Less : goal.returns-in-Greater-Less
 returns-in-Greater-Less c = search rules fits 100

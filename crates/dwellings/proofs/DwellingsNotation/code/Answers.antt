@@ -1,6 +1,6 @@
 use Rattle.std.proofs.Common.{rules, tests}
 use Rattle.dwellings.proofs.DwellingsNotation.code.Goals as goal
 
--- Given, since the search for it takes 5 s where it fails.
+-- Given, since a wrong body is refused 5 s sooner with it.
 pub returns-in-115-3 : goal.returns-in-115-3
 returns-in-115-3 c = search (tests, rules) fits 100

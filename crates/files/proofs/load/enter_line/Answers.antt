@@ -13,6 +13,6 @@ returns-in_err-enter_at-clause-answer g c =
     let d = c.args.draft.now in
     rw (p.1, p.2) (entry_refused (statement_fault s.code c.args.line.now) (refusal_field d.items) (entry_refusal s d.items d.rows.items) c.in_ok-entry.entry (entry_of s.code c.args.line.now) _ c.in_ok-entry.ensures.entry c.in_err-enter_at.ensures.answer)
 
--- Given, since the search for it takes 8 s where it fails.
+-- Given, since a wrong body is refused 8 s sooner with it.
 pub returns-in_err-entry-clause-entered : goal.returns-in_err-entry-clause-entered
 returns-in_err-entry-clause-entered g c = search rules fits 100

@@ -23,6 +23,6 @@ loop-word-init g c =
     some_words code c.args.field.now (false-eqb _ 0 c.if-is_empty.ensures)
     ∙ ap (λ ws. given (all_words code ws) (with_words code 0 ws) NotWord) (sym (ap left c.into_iter-word-iterator.ensures.into_iter_gives ∙ c.new-word-items.ensures.parts))
 
--- Given, since the search for it takes 10 s where it fails.
+-- Given, since a wrong body is refused 10 s sooner with it.
 pub loop-word-preserved : goal.loop-word-preserved
 loop-word-preserved g c = search rules fits 100

@@ -1,6 +1,6 @@
 use Rattle.std.proofs.Common.{rules, tests}
 use Rattle.moments.proofs.MomentsNotation.code.Goals as goal
 
--- Given, since the search for it takes 4 s where it fails.
+-- Given, since a wrong body is refused 4 s sooner with it.
 pub returns-in-60 : goal.returns-in-60
 returns-in-60 c = search (tests, rules) fits 100

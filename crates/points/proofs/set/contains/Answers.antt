@@ -11,6 +11,6 @@ returns-else-code-lt64 c =
     let small : c.args.set < 2 ^ c.args.code = omega arith in
     le-ltb c.args.code 64 c.if-code-lt64.false ∙ sym (ap (λ (q : ℕ). eqb (q % 2) 1) (div-eq_of_lt small))
 
--- Given, since the search for it takes 5 s where it fails.
+-- Given, since a wrong body is refused 5 s sooner with it.
 pub returns-then-code-lt64 : goal.returns-then-code-lt64
 returns-then-code-lt64 c = grind (arith, common_steps) steps 400000

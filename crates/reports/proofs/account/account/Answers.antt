@@ -15,7 +15,7 @@ account_by s charges = record {
   charges = charges;
 }
 
--- Given, since the search for it takes 23 s where it fails.
+-- Given, since a wrong body is refused 23 s sooner with it.
 pub returns-clause-bytes : goal.returns-clause-bytes
 returns-clause-bytes g c =
     let tells = c.in_ok-answers.ensures.tells in

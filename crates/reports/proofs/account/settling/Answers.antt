@@ -18,6 +18,6 @@ returns c =
     let count : c.loop-person.person - 1 ≡ 20 = omega arith in
     c.loop-person.invariant ∙ ap (λ n. Close ∷ Search c.args.steps ∷ Show 12 ∷ map Charge (range_with_len 1 n)) count
 
--- Given, since the search for it takes 8 s where it fails.
+-- Given, since a wrong body is refused 8 s sooner with it.
 pub loop-person-init : goal.loop-person-init
 loop-person-init c = search rules fits 100

@@ -1,10 +1,10 @@
 use Rattle.std.proofs.Common.{rules}
 use Rattle.reports.proofs.report.person_text.Goals as goal
 
--- Given, since the search for it takes 5 s where it fails.
+-- Given, since a wrong body is refused 5 s sooner with it.
 pub returns : goal.returns
 returns g c = search rules fits 400
 
--- Given, since the search for it takes 5 s where it fails.
+-- Given, since a wrong body is refused 5 s sooner with it.
 pub returns-then-at_most : goal.returns-then-at_most
 returns-then-at_most g c = search rules fits 100

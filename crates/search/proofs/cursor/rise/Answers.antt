@@ -39,6 +39,6 @@ returns-clause-low c =
     subst (Below c.args.codes) (sym c.loop-i.invariant.1)
     (below_front c.args.codes c.loop-i.i (length c.args.cursor.now - c.loop-i.i) c.args.cursor.now (omega (arith, c.requires.coded)) c.requires.low)
 
--- Given, since the search for it takes 4 s where it fails.
+-- Given, since a wrong body is refused 4 s sooner with it.
 pub loop-i-init : goal.loop-i-init
 loop-i-init c = grind (arith, elements) steps 100000

@@ -7,7 +7,7 @@ use Rattle.settlement.proofs.Lengths.{fault_short, only_memory}
 use Rattle.settlement.proofs.Printing.{front}
 use Rattle.settlement.proofs.file.print_fault.Goals as goal
 
--- Given, since the search for it takes 15 s where it fails.
+-- Given, since a wrong body is refused 15 s sooner with it.
 pub returns-clause-printed : goal.returns-clause-printed
 returns-clause-printed g c =
     let Prints : List ℕ → Type 0 = Appends (g.W.Write.contents c.args.out.now) (g.W.Write.contents c.write_all.new.self) in

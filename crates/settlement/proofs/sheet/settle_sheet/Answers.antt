@@ -2,7 +2,7 @@ use Rattle.std.proofs.Common.{rules, arith}
 use Rattle.settlement.proofs.Lengths.{decimal_short, pair_short}
 use Rattle.settlement.proofs.sheet.settle_sheet.Goals as goal
 
--- These six are given, since the searches for them take 30 s where they fail.
+-- These six are given, since a wrong body is refused 30 s sooner with them.
 pub returns-in-Moments-ByWeight : goal.returns-in-Moments-ByWeight
 returns-in-Moments-ByWeight g c = search rules fits 100
 

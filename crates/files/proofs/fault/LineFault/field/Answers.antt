@@ -1,6 +1,6 @@
 use Rattle.std.proofs.Common.{rules}
 use Rattle.files.proofs.fault.LineFault.field.Goals as goal
 
--- Given, since the search for it takes 7 s where it fails.
+-- Given, since a wrong body is refused 7 s sooner with it.
 pub returns-in-Field : goal.returns-in-Field
 returns-in-Field c = search rules fits 100

@@ -9,7 +9,7 @@ returns-clause-stands g c = λ file h.
     let s = spelled g.K.Kind.meaning g.K.Notation.words g.K.Notation.initial g.T.TallyLetter.initial in
     load_stands file s (view_of c.args.self.now) (view_of (record { spot = Some c.load_body.new.spot; waiting = None })) (search rules) h
 
--- These five are given, since the searches for them take 13 to 15 s where they fail.
+-- These five are given, since a wrong body is refused 13 to 15 s sooner with them.
 pub returns-in-Err-clause-answer : goal.returns-in-Err-clause-answer
 returns-in-Err-clause-answer g c = search rules fits 400
 

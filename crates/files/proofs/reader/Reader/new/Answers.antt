@@ -13,6 +13,6 @@ returns-clause-reads c =
     let v : view_of (record { spot = c.if-file-gt-LARGEST.spot; waiting = None }) ≡ start_of c.args.file.now = search rules in
     subst (ReadsFile c.args.file.now) (sym v) (reads_file c.args.file.now)
 
--- Given, since the search for it takes 3 s where it fails.
+-- Given, since a wrong body is refused 3 s sooner with it.
 pub returns-clause-view : goal.returns-clause-view
 returns-clause-view c = search rules fits 100

@@ -10,7 +10,7 @@ loop-line-preserved c =
     passed c.args.self.now.place c.loop-line.self.place (lines c.args.self.now.ahead.rest.now) (lines c.loop-line.self.ahead.rest.now) (lines c.next.new.self.rest.now) c.in-Some.line.now
     c.loop-line.invariant c.in-Some.ensures.steps (no_head c.in-Some.line.now (sym c.class_of.ensures ∙ h.is-1)) (some_sheet c.loop-line.self.place (sym c.state.ensures ∙ h.is-0))
 
--- These two are given, since the searches for them take 18 s where they fail.
+-- These two are given, since a wrong body is refused 18 s sooner with them.
 pub returns-in-NoSheet-StatementLine-clause-answer : goal.returns-in-NoSheet-StatementLine-clause-answer
 returns-in-NoSheet-StatementLine-clause-answer c =
     let h = c.in-NoSheet-StatementLine in

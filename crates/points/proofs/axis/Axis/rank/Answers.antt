@@ -15,7 +15,7 @@ loop-k-preserved g c = (
 pub returns-clause-compares : goal.returns-clause-compares
 returns-clause-compares g c = rank_lemma
 
--- These two are given, since the searches for them take 6 s where they fail.
+-- These two are given, since a wrong body is refused 6 s sooner with them.
 pub loop-k-init : goal.loop-k-init
 loop-k-init g c = search rules fits 100
 

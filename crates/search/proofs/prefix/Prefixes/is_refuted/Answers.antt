@@ -32,7 +32,7 @@ returns-then-length-eq0 g c =
     (ap (λ (z : ℕ). unfit r sheet.items z c.args.self.now.cursor.now) c.if-length-eq0.true ∙ unfit_zero r sheet.items c.args.self.now.cursor.now) c.at_most.ensures
     ∙ c.if-at_most.false
 
--- Given, since the search for it takes 14 s where it fails.
+-- Given, since a wrong body is refused 14 s sooner with it.
 pub returns : goal.returns
 returns g c =
     let tables = c.args.self.now.tables.now in

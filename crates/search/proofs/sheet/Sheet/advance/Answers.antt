@@ -111,7 +111,7 @@ loop-taken-preserved g c =
       keeps = both (λ a z. Keeps r s.items (rows_of s) a z c.in-Some-step.next c.step.new.spent) e.keeps;
     }
 
--- Given, since the search for it takes 10 s where it fails.
+-- Given, since a wrong body is refused 10 s sooner with it.
 pub loop-taken-init : goal.loop-taken-init
 loop-taken-init g c =
     let s = c.args.self.now in
@@ -138,7 +138,7 @@ loop-taken-init g c =
       };
     }
 
--- Given, since the search for it takes 15 s where it fails.
+-- Given, since a wrong body is refused 15 s sooner with it.
 pub invariant_of-self-2 : goal.invariant_of-self-2
 invariant_of-self-2 g c =
     let s = c.args.self.now in
@@ -155,7 +155,7 @@ invariant_of-self-2 g c =
       marked = λ a e. subst (Holds s.codes (pairs s.items)) (same_Some _ a e) inv.marked;
     }
 
--- Given, since the search for it takes 7 s where it fails.
+-- Given, since a wrong body is refused 7 s sooner with it.
 pub returns : goal.returns
 returns g c =
     let s = c.args.self.now in

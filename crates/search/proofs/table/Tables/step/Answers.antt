@@ -115,6 +115,6 @@ returns-in_ok-filled-in-None-clause-keeps g c =
       blank = c.in_ok-filled-in-None.ensures.blank;
     }
 
--- Given, since the search for it takes 7 s where it fails.
+-- Given, since a wrong body is refused 7 s sooner with it.
 pub rise-requires-clause-blank : goal.rise-requires-clause-blank
 rise-requires-clause-blank g c = c.requires.keeps.blank

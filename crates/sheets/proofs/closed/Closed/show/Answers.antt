@@ -37,6 +37,6 @@ returns g c =
           (realised s.some s.few enough sheet.sound.fitting);
     }
 
--- Given, since the search for it takes 9 s where it fails.
+-- Given, since a wrong body is refused 9 s sooner with it.
 pub returns-then-page-from-clause-answers : goal.returns-then-page-from-clause-answers
 returns-then-page-from-clause-answers g c = search rules fits 100

@@ -14,10 +14,10 @@ invariant_of-self g c =
     let is = sound_weight draft.items row c.args.weight (search rules) (search rules) was in
     record { some = draft.some; few = draft.few; room = draft.room; sound = proper_set draft.items draft.rows.items _ _ draft.sound is }
 
--- Given, since the search for it takes 6 s where it fails.
+-- Given, since a wrong body is refused 6 s sooner with it.
 pub returns-then-not-contains : goal.returns-then-not-contains
 returns-then-not-contains g c = search rules fits 400
 
--- Given, since the search for it takes 5 s where it fails.
+-- Given, since a wrong body is refused 5 s sooner with it.
 pub returns : goal.returns
 returns g c = grind (arith, common_steps)

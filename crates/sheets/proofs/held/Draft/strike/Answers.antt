@@ -12,6 +12,6 @@ invariant_of-self g c =
     let row = proper_read draft.items draft.rows.items _ c.entry_mut.result.now (omega arith) c.entry_mut.ensures.value draft.sound in
     record { some = draft.some; few = draft.few; room = draft.room; sound = proper_set draft.items draft.rows.items _ _ draft.sound row }
 
--- Given, since the search for it takes 8 s where it fails.
+-- Given, since a wrong body is refused 8 s sooner with it.
 pub returns : goal.returns
 returns g c = grind (arith, common_steps) steps 400000

@@ -1,6 +1,6 @@
 use Rattle.std.proofs.Common.{rules}
 use Rattle.tallies.proofs.by_weight.ByWeightJoins.empty.Goals as goal
 
--- Given, since the search for it takes 3 s where it fails.
+-- Given, since a wrong body is refused 3 s sooner with it.
 pub returns : goal.returns
 returns c = search rules fits 100
