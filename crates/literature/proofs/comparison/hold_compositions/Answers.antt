@@ -48,7 +48,7 @@ loop-row-init g c =
     let words = g.K.Notation.words in
     let table = c.args.table in
     let Q : ℕ → List Entry → Type 0 = λ k es. (row : Entries) → (r : ℕ) × (meant_code words table.letters.0.now (get_or table.rows.now k row).letter.now ≡ Some r) × RowHeld m words table r (get_or table.rows.now k row).entries.now es in
-    ((search rules, search rules), no_rows words g.K.Notation.initial c.default.result.score Q (g.W.Write.contents c.args.out.now))
+    ((search rules fits 100, search rules fits 100), no_rows words g.K.Notation.initial c.default.result.score Q (g.W.Write.contents c.args.out.now))
 
 pub returns-clause-agree : goal.returns-clause-agree
 returns-clause-agree g c =

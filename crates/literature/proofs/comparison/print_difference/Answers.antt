@@ -1,6 +1,7 @@
 -- The parts of the line, one after another.
 use Rattle.std.proofs.Common.{◌≡◌, [], ◌∷◌, ◌++◌, codes, ◌∙◌}
 use Rattle.std.proofs.lemmas.Result.{on_ok_weaker}
+use Rattle.std.specs.Io.KnownBytes.{Appends}
 use Rattle.points.specs.Sets.{has}
 use Rattle.literature.specs.Held.{differs_line}
 use Rattle.literature.specs.Printed.{set_words}
@@ -19,6 +20,8 @@ returns g c =
     ∙ λ i. start ++ (c.letter.ensures i ∷ 32 ∷ []) ++ c.word.ensures i ++ (32 ∷ []) ++ c.word-2.ensures i ++ codes ": ours" ++ ours ++ codes ", published" ++ published ++ (10 ∷ []) in
     let named = appends_more _ _ _ _ _ (appends_more _ _ _ _ _ c.in_ok-write.ensures.bytes c.in_ok-write_all.ensures.bytes) c.in_ok-write-2.ensures.bytes in
     let set = appends_more _ _ _ _ _ (appends_more _ _ _ _ _ named c.in_ok-print_set.ensures) c.in_ok-write-3.ensures.bytes in
+    -- its type is written, since a set that is another is refused 4 s later without it
+    let second : Appends _ _ published = c.in_ok-print_set-2.ensures in
     on_ok_weaker c.writeln.result
-    (λ bytes. appends_as (g.W.Write.contents c.args.out.now) (g.W.Write.contents c.writeln.new.self) line (appends_more _ _ _ _ _ (appends_more _ _ _ _ _ set c.in_ok-print_set-2.ensures) bytes))
+    (λ bytes. appends_as (g.W.Write.contents c.args.out.now) (g.W.Write.contents c.writeln.new.self) line (appends_more _ _ _ _ _ (appends_more _ _ _ _ _ set second) bytes))
     c.writeln.ensures.bytes

@@ -1,5 +1,5 @@
 -- The line of an entry that differs.
-use Rattle.std.proofs.Common.{◌≡◌, ℕ, [], subst, sym, ◌∙◌}
+use Rattle.std.proofs.Common.{◌≡◌, ℕ, [], subst, sym, ◌∙◌, rules}
 use Rattle.std.proofs.lemmas.Bool.{eq-eqb, ne_eqb}
 use Rattle.std.proofs.lemmas.Option.{same_Some}
 use Rattle.std.specs.Io.KnownBytes.{Appends}
@@ -25,3 +25,7 @@ returns-clause-printed g c set given =
           appends_as (g.W.Write.contents c.args.out.now) (g.W.Write.contents c.if-ours-published.out) agree
           (subst (λ out. Appends (g.W.Write.contents c.args.out.now) (g.W.Write.contents out) []) (sym w.out-is) (appends_none (g.W.Write.contents c.args.out.now))))
     ])
+
+-- Given, since the search for it takes 8 s where it fails.
+pub returns-clause-counted : goal.returns-clause-counted
+returns-clause-counted g c = search rules fits 100
