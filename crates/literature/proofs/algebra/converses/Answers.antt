@@ -1,0 +1,7 @@
+use Rattle.std.proofs.Common.{arith}
+use Rattle.std.proofs.lemmas.Grind.{common_steps}
+use Rattle.literature.proofs.algebra.converses.Goals as goal
+
+-- Given, since the search for it takes 10 s where it fails.
+pub returns : goal.returns
+returns g c e = (λ h. grind (arith, common_steps) steps 200000, λ r. grind (arith, common_steps) steps 200000)
