@@ -1,4 +1,4 @@
--- One of the two counts is one more.
+-- One that does not stand is counted in.
 use Rattle.std.proofs.Common.{rules}
 use Rattle.literature.proofs.score.Score.count.Goals as goal
 
