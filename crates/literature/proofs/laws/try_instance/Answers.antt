@@ -7,7 +7,7 @@ use Rattle.literature.proofs.Trials.{fails_shown, holds_shown}
 use Rattle.literature.proofs.laws.try_instance.Goals as goal
 use Rattle.literature.proofs.laws.try_instance.Goals.{then-not-holds+in_ok-print_failure, else-not-holds}
 
--- Given, since the search for it takes 8 s where it fails.
+-- Given, since a wrong body is refused 8 s sooner with it.
 pub returns-clause-counted : goal.returns-clause-counted
 returns-clause-counted g c = search rules fits 100
 

@@ -7,7 +7,7 @@ use Rattle.literature.proofs.Printing.{appends_next, appends_none}
 use Rattle.literature.proofs.relations.print_set.Goals as goal
 use Rattle.literature.proofs.relations.print_set.Goals.{then-contains+in_ok-write, else-contains}
 
--- Given, since the search for it takes 6 s where it fails.
+-- Given, since a wrong body is refused 6 s sooner with it.
 pub loop-code-preserved : goal.loop-code-preserved
 loop-code-preserved g c =
     let code = c.loop-code.code in

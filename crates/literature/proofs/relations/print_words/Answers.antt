@@ -16,7 +16,7 @@ words_below words set b x y written whole =
     let same : has set ≡ (λ e. nat_lt e b) = λ i e. each e i in
     appends_as x y (ap (set_words words) same) written
 
--- Given, since the search for it takes 6 s where it fails.
+-- Given, since a wrong body is refused 6 s sooner with it.
 pub returns : goal.returns
 returns g c =
     let words = words_below g.K.Notation.words _ g.K.Kind.meaning.codes (g.W.Write.contents c.write.new.self) (g.W.Write.contents c.print_set.new.out) c.in_ok-print_set.ensures (search rules fits 100) in

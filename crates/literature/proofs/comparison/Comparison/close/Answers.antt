@@ -20,6 +20,6 @@ returns-clause-printed g c tests same =
     appends_as (g.W.Write.contents c.args.out.now) (g.W.Write.contents c.writeln.new.self) line
     (appends_more _ _ _ _ _ (appends_more _ _ _ _ _ c.in_ok-write.ensures.bytes c.in_ok-write_all.ensures.bytes) c.in_ok-writeln.ensures.bytes)
 
--- Given, since the search for it takes 10 s where it fails.
+-- Given, since a wrong body is refused 10 s sooner with it.
 pub returns-clause-closed : goal.returns-clause-closed
 returns-clause-closed g c = (refl, subst (Whole g.K.Kind.meaning) (sym c.if-self-whole.false) c.whole.ensures)

@@ -26,6 +26,6 @@ returns-clause-printed g c set given =
           (subst (λ out. Appends (g.W.Write.contents c.args.out.now) (g.W.Write.contents out) []) (sym w.out-is) (appends_none (g.W.Write.contents c.args.out.now))))
     ])
 
--- Given, since the search for it takes 8 s where it fails.
+-- Given, since a wrong body is refused 8 s sooner with it.
 pub returns-clause-counted : goal.returns-clause-counted
 returns-clause-counted g c = search rules fits 100
