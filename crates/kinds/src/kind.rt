@@ -51,11 +51,13 @@ pub trait Kind {
         ensures realised { 1 ≤ items → items ≤ 12 → items ≤ length page.old → Fitting meaning items scenario.now → (other : Self.Value) → Realises meaning items scenario.now (λ i. slice_index_or page.new i other) }
     {
         for (i, place) in page.iter_mut().enumerate() {
-            if i < usize::from(items) {
-                // The cast keeps i, which is below the number of items. With `zip(0..items)` in the place of the test and the cast, a proof
-                // knows none of the values written after the loop.
-                *place = Self::value(items, scenario, i as u8);
+            // The loop ends with the items, however long the page is. With `zip(0..items)` in the place of the test and the cast, a proof
+            // knows none of the values written after the loop; with `take`, an invariant has no name for i.
+            if i >= usize::from(items) {
+                break;
             }
+            // The cast keeps i, which is below the number of items.
+            *place = Self::value(items, scenario, i as u8);
         }
     }
 

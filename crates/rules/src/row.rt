@@ -1,5 +1,5 @@
 // The rows of a sheet.
-ghost use Rattle.std.specs.Prelude.{◌≡◌, ◌&&◌, ◌==◌};
+ghost use Rattle.std.specs.Prelude.{◌≡◌, ◌&&◌, if◌then◌else◌, ◌==◌};
 ghost use Rattle.points.specs.Scenarios.{entry as entry_of};
 ghost use Rattle.rules.specs.Rows.{claim_of, counts, breaks as breaks_of, spot as spot_of};
 ghost use Rattle.rules.specs.Properly.{row_proper};
@@ -62,11 +62,16 @@ impl Row {
         place(self.low, self.high) == spot && self.is_broken(code)
     }
 
-    /// The cost joined with the penalty of the row: a sum, and no other form of the row.
-    pub fn added<J: Joins>(self, cost: J::Cost) -> J::Cost
-        ensures { result ≡ J.Joins.joining.join cost (J.Joins.joining.penalty (claim_of self)) }
+    /// The cost joined with the penalty of the row, if it is to be added: a sum, and no other form of the row. The flag stays, since with
+    /// no row to add the call answers the cost itself, which its callers may rely on.
+    pub fn added<J: Joins>(self, cost: J::Cost, adds: bool) -> J::Cost
+        ensures { result ≡ (if adds then J.Joins.joining.join cost (J.Joins.joining.penalty (claim_of self)) else cost) }
     {
-        J::join(cost, J::penalty(self.into()))
+        if adds {
+            J::join(cost, J::penalty(self.into()))
+        } else {
+            cost
+        }
     }
 }
 

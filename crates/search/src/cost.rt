@@ -46,9 +46,7 @@ impl Sheet {
         let rows = self.rows();
         let mut sum = J::empty();
         for row in rows {
-            if test(row) {
-                sum = row.added::<J>(sum);
-            }
+            sum = row.added::<J>(sum, test(row));
         }
         sum
     }

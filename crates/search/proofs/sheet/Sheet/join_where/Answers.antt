@@ -1,6 +1,5 @@
 -- One more row with each turn, joined if it passes.
-use Rattle.std.proofs.Common.{◌≡◌, ◌≤◌, refl, filter, List, length, get_or, take, sym, ap, ◌∙◌, subst}
-use Rattle.std.proofs.lemmas.Bool.{cond-true, cond-false}
+use Rattle.std.proofs.Common.{◌≡◌, ◌≤◌, refl, Bool, cond, filter, List, length, get_or, take, sym, ap, ◌∙◌, subst}
 use Rattle.tallies.specs.Joins.{joined}
 use Rattle.tallies.proofs.Along.{monoid_along}
 use Rattle.rules.specs.declared.row.Row.{Row}
@@ -10,7 +9,6 @@ use Rattle.rules.proofs.Properly.{few_rows}
 use Rattle.search.specs.Closed.{rows_of}
 use Rattle.search.proofs.Loops.{joined_kept_more}
 use Rattle.search.proofs.sheet.Sheet.join_where.Goals as goal
-use Rattle.search.proofs.sheet.Sheet.join_where.Goals.{then-test, else-test}
 
 pub loop-row-preserved : goal.loop-row-preserved
 loop-row-preserved g c p is =
@@ -25,8 +23,5 @@ loop-row-preserved g c p is =
     let before = joined j (filter p (take i rows)) in
     let with_it = j.join before (j.penalty (get_or rows i no_row)) in
     let test : c.test.result ≡ p (get_or rows i no_row) = is (get_or rows i no_row) c.test.result (record { shown = _; shows = refl; says = record { met = c.test.ensures } }) in
-    elim c.if-test.branch [
-      | then-test w ↦ w.sum-is ∙ w.added-sum.ensures ∙ ap (λ z. j.join z (j.penalty (get_or rows i no_row))) so_far
-          ∙ sym (more ∙ cond-true (p (get_or rows i no_row)) with_it before (sym test ∙ w.if-test.true))
-      | else-test w ↦ w.sum-is ∙ so_far ∙ sym (more ∙ cond-false (p (get_or rows i no_row)) with_it before (sym test ∙ w.if-test.false))
-    ]
+    c.added-sum.ensures ∙ ap (λ z. cond c.test.result (j.join z (j.penalty (get_or rows i no_row))) z) so_far
+        ∙ ap (λ (b : Bool). cond b with_it before) test ∙ sym more
