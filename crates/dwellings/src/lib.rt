@@ -3,6 +3,7 @@
 
 ghost use Rattle.std.specs.Prelude.{◌∷◌, ◌++◌, Some, refl};
 ghost use Rattle.std.specs.Fmt.{decimal};
+ghost use Rattle.points.specs.Marks.{Draws};
 ghost use Rattle.kinds.specs.Layouts.{fit};
 ghost use Rattle.dwellings.specs.Dwellings.{dwelling_words, dwellings, compass, dwelling};
 ghost use Rattle.kinds.proofs.Framed.{laws};
@@ -143,6 +144,20 @@ const NORTHWARD: Axis<1> = Axis {
     }]],
 };
 
+// The axis on which a dwelling has its mark to the east. A function, so that a contract says what the constant draws.
+fn eastward() -> Axis<1>
+    ensures { Draws result.orders 1 (compass.side 0) }
+{
+    EASTWARD
+}
+
+// The axis on which a dwelling has its mark to the north. A function, so that a contract says what the constant draws.
+fn northward() -> Axis<1>
+    ensures { Draws result.orders 1 (compass.side 1) }
+{
+    NORTHWARD
+}
+
 impl Kind for Dwellings {
     type Value = Dwelling;
 
@@ -197,8 +212,8 @@ impl Kind for Dwellings {
     fn value(items: u8, scenario: &[u8], item: u8) -> Dwelling {
         // Each field is a rank of its own.
         Dwelling {
-            east: EASTWARD.rank(items, scenario, item, 0),
-            north: NORTHWARD.rank(items, scenario, item, 0),
+            east: eastward().rank(items, scenario, item, 0),
+            north: northward().rank(items, scenario, item, 0),
         }
     }
 }

@@ -3,6 +3,7 @@
 
 ghost use Rattle.std.specs.Prelude.{Some, refl};
 ghost use Rattle.std.specs.Fmt.{decimal};
+ghost use Rattle.points.specs.Marks.{Draws};
 ghost use Rattle.kinds.specs.Layouts.{fit};
 ghost use Rattle.moments.specs.Moments.{moment_words, moments, line as line_layout, moment};
 ghost use Rattle.kinds.proofs.Framed.{laws};
@@ -54,6 +55,13 @@ const LINE: Axis<1> = Axis {
     }]],
 };
 
+// The axis on which a moment has its mark. A function, so that a contract says what the constant draws.
+fn line() -> Axis<1>
+    ensures { Draws result.orders 1 (line_layout.side 0) }
+{
+    LINE
+}
+
 impl Kind for Moments {
     type Value = Moment;
 
@@ -101,7 +109,7 @@ impl Kind for Moments {
 
     fn value(items: u8, scenario: &[u8], item: u8) -> Moment {
         Moment {
-            at: LINE.rank(items, scenario, item, 0),
+            at: line().rank(items, scenario, item, 0),
         }
     }
 }

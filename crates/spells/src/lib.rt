@@ -14,7 +14,7 @@ use kinds::notation::{Notation, WholeNotation};
 use kinds::table::look_up;
 use points::set::contains;
 use spell::{Spell, relate};
-use table::{TABLE, TIMELINE};
+use table::{TABLE, timeline};
 
 pub mod spell;
 mod table;
@@ -66,10 +66,11 @@ impl Kind for Spells {
     }
 
     fn value(items: u8, scenario: &[u8], item: u8) -> Spell {
+        let axis = timeline();
         // Each field is a rank of its own.
         Spell {
-            start: TIMELINE.rank(items, scenario, item, 0),
-            end: TIMELINE.rank(items, scenario, item, 1),
+            start: axis.rank(items, scenario, item, 0),
+            end: axis.rank(items, scenario, item, 1),
         }
     }
 }

@@ -1,4 +1,7 @@
 // The composition of spells, and the axis of their ends.
+ghost use Rattle.points.specs.Marks.{Draws};
+ghost use Rattle.spells.specs.Spells.{timeline as timeline_layout};
+
 use kinds::table::Row;
 use points::axis::{Axis, Order};
 
@@ -256,7 +259,7 @@ pub const TABLE: [Row<13>; 13] = [
 ];
 
 // The axis of the ends: mark 0 is the start, mark 1 the end.
-pub const TIMELINE: Axis<2> = Axis {
+const TIMELINE: Axis<2> = Axis {
     orders: [
         [
             Order {
@@ -280,3 +283,10 @@ pub const TIMELINE: Axis<2> = Axis {
         ],
     ],
 };
+
+/// The axis on which spells have their start and their end. A function, so that a contract says what the constant draws.
+pub fn timeline() -> Axis<2>
+    ensures { Draws result.orders 2 (timeline_layout.side 0) }
+{
+    TIMELINE
+}
