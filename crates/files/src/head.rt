@@ -1,11 +1,12 @@
 // The head of a sheet.
 ghost use Rattle.std.specs.Prelude.{◌≡◌, ◌↔◌, Ok};
+ghost use Rattle.std.specs.Cmp.{partial_equiv_from_equiv};
 ghost use Rattle.std.specs.Int.{is_in_range};
 ghost use Rattle.statements.specs.declared.fault.Fault.TheVariants.{Size};
 ghost use Rattle.files.specs.declared.fault.FieldFault.TheVariants.{Unknown as Unfit};
 ghost use Rattle.files.specs.Faults.{given};
 ghost use Rattle.files.specs.Heads.{head_in, letter, is_kind, is_tally, SaysHead};
-ghost use Rattle.files.specs.Letters.{Said, kind_letter, kind_of, tally_letter, tally_of};
+ghost use Rattle.files.specs.Letters.{Said, kind_letter, kind_of, same_said, says_same, tally_letter, tally_of};
 
 use crate::fault::{At, FieldFault, LineFault, placed};
 use crate::number::number;
@@ -29,7 +30,7 @@ pub enum HeadTally {
 }
 
 /// What a head says: the kind, the number of items, 1 to 12, and the tally. Contracts see the kind and the tally by their letters.
-#[derive(Clone, Copy, PartialEq, Eq)]
+#[derive(Clone, Copy)]
 pub struct Head {
     pub kind: HeadKind,
     pub size: u32,
@@ -48,6 +49,23 @@ impl Model for Head {
     ghost invariant = { λ h. is_in_range 1 12 h.size ≡ true };
 
     ghost inverse = { λ s. record { kind = kind_of s.letter; size = s.size; tally = tally_of s.tally } };
+}
+
+/// Two heads are equal that say the same. By hand: a derived `==` would speak of the enums, which contracts do not see.
+impl PartialEq for Head {
+    ghost eq = { says_same };
+
+    ghost laws = { partial_equiv_from_equiv same_said };
+
+    fn eq(&self, other: &Head) -> bool {
+        u8::from(self.kind) == u8::from(other.kind)
+            && self.size == other.size
+            && u8::from(self.tally) == u8::from(other.tally)
+    }
+}
+
+impl Eq for Head {
+    ghost laws = { same_said };
 }
 
 /// The most bytes of a line.

@@ -18,6 +18,9 @@ use std::io::{Read, Write};
 // At least as many bytes as the line of a fault has, where a number may have 64 digits.
 const LONGEST_LINE: usize = 512;
 
+// The most bytes that a packet of a pipe has.
+const LEAST_READ: usize = 4096;
+
 // Settles the sheets of a file up to its first fault, and prints the report of each.
 fn settle_sheets<W: Write>(heap: Global, file: &[u8], out: &mut W) -> Result<(), Stop>
     ensures printed { Ends result (fault_of file.now) (W.contents out.old) (W.contents out.new) (reports_in file.now) }
@@ -64,7 +67,9 @@ pub fn settle_file<W: Write>(heap: Global, file: &[u8], out: &mut W) -> Result<b
 fn read_file<R: Read + Drop>(heap: Global, input: R) -> io::Result<Vec<u8>>
     ensures { IfSome (R.remaining input) (λ file. IfOk result (λ v. v.items ≡ take 65537 file)) }
 {
-    let mut file = Vec::new(heap);
+    // Room for `LEAST_READ` bytes more than are read, so that each read asks for as many: a channel of packets loses what of a packet does
+    // not fit the read, and `read_to_end` begins with 512 bytes where there is no room.
+    let mut file = Vec::with_capacity(heap, LARGEST + 1 + LEAST_READ)?;
     // A cast, as there is no `From` from a `usize` to a `u64`.
     input.take(LARGEST as u64 + 1).read_to_end(&mut file)?;
     Ok(file)

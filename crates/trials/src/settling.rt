@@ -2,6 +2,7 @@
 use settlement::file::{settle, settle_file};
 use std::alloc::Global;
 use std::io;
+use std::io::Read;
 use std::test::Fail;
 
 /// Settles a file that is in memory, and tells whether it fits and whether just this text is printed.
@@ -61,5 +62,45 @@ fn a_page_that_is_too_short(rt: HostRuntime) -> Result<(), Fail> {
     let mut page = [0u8; 20];
     assert!(rt; settle_file(rt.alloc(), TWO, &mut io::Cursor::new(&mut page[..])).is_err());
     assert!(rt; page.as_slice() == b"sheet 1 M 2 w cost 3".as_slice());
+    Ok(())
+}
+
+/// A channel that gives a file in packets of 4,096 bytes, and loses what of a packet does not fit the buffer.
+#[derive(Drop)]
+struct Packets<'a> {
+    left: &'a [u8],
+}
+
+impl<'a> Read for Packets<'a> {
+    fn read(&mut self, buf: &mut [u8]) -> io::Result<usize> {
+        let packet = self.left.len().min(4096);
+        let read = packet.min(buf.len());
+        buf[..read].copy_from_slice(&self.left[..read]);
+        self.left = &self.left[packet..];
+        Ok(read)
+    }
+}
+
+/// No packet is read into less room than it may need: five sheets of 256 equal statements each, which break none.
+#[test]
+fn a_file_in_packets(rt: HostRuntime) -> Result<(), Fail> {
+    let heap = rt.alloc();
+    let mut file = Vec::new(heap);
+    let mut text = Vec::new(heap);
+    for sheet in ["1", "2", "3", "4", "5"] {
+        file.extend_from_slice(b"M 2 w\n")?;
+        for _statement in 0..256u32 {
+            file.extend_from_slice(b"1 2 < 3 1\n")?;
+        }
+        text.extend_from_slice(b"sheet ")?;
+        text.extend_from_slice(sheet.as_bytes())?;
+        text.extend_from_slice(b" M 2 w cost 0 floor 0 final\nitem 1 0\nitem 2 1\n")?;
+    }
+    let mut out = Vec::new(heap);
+    let packets = Packets {
+        left: file.as_slice(),
+    };
+    assert!(rt; settle(heap, packets, &mut out)?);
+    assert!(rt; out.as_slice() == text.as_slice());
     Ok(())
 }
