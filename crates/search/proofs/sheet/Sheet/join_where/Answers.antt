@@ -24,4 +24,4 @@ loop-row-preserved g c p is =
     let with_it = j.join before (j.penalty (get_or rows i no_row)) in
     let test : c.test.result ≡ p (get_or rows i no_row) = is (get_or rows i no_row) c.test.result (record { shown = _; shows = refl; says = record { met = c.test.ensures } }) in
     c.added-sum.ensures ∙ ap (λ z. cond c.test.result (j.join z (j.penalty (get_or rows i no_row))) z) so_far
-        ∙ ap (λ (b : Bool). cond b with_it before) test ∙ sym more
+    ∙ ap (λ (b : Bool). cond b with_it before) test ∙ sym more
