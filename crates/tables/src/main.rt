@@ -4,12 +4,7 @@
 use literature::literature::published_tables;
 use literature::summary::print_all;
 use std::io;
-use std::io::{LineWriter, Write};
 
 fn main(rt: HostRuntime) -> anyhow::Result<()> {
-    // Lines are put together from pieces, and each is written as a whole.
-    let mut out = LineWriter::new(rt.alloc(), io::writer(&rt))?;
-    print_all(&mut out, published_tables(), figures::count())?;
-    out.flush()?;
-    Ok(())
+    print_all(&mut io::writer(&rt), published_tables(), figures::count())
 }
